@@ -1,0 +1,18 @@
+//! The outside of the server and the client, as traits that contracts can speak of, and fakes of
+//! it in memory.
+#![tactic(auto)]
+
+mod calls;
+mod mem_sink;
+mod mem_source;
+mod no_fail_sink;
+mod no_fail_source;
+mod sink;
+mod source;
+
+pub use mem_sink::MemSink;
+pub use mem_source::MemSource;
+pub use no_fail_sink::NoFailSink;
+pub use no_fail_source::NoFailSource;
+pub use sink::{Sink, SinkFault, write_all};
+pub use source::{Source, SourceFault};
