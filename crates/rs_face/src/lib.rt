@@ -14,5 +14,6 @@ pub use mem_sink::MemSink;
 pub use mem_source::MemSource;
 pub use no_fail_sink::NoFailSink;
 pub use no_fail_source::NoFailSource;
+pub use rs_path::{Bytes, NoMemory};
 pub use sink::{Sink, SinkFault, write_all};
 pub use source::{Source, SourceFault};

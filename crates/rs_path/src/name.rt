@@ -1,0 +1,108 @@
+//! Names of documents and folders.
+
+ghost use Rattle.std.specs.Prelude.{◌≡◌, ◌<◌, ◌≤◌, length, Some, None, IfOk, IsTrue, if◌then◌else◌};
+ghost use Rattle.std.specs.Cmp.{partial_equiv_from_equiv};
+ghost use Rattle.std.proofs.lemmas.Cmp.{nat_list_eq_equiv};
+ghost use Rattle.std.specs.Str.{bytes_eq, is_utf8};
+ghost use Rattle.rs_path.specs.Names.{is_name, is_dots, has_no_separator};
+
+use crate::no_memory::NoMemory;
+use std::alloc::Global;
+use std::marker::Model;
+
+/// The greatest number of bytes of a name.
+pub const MAX_NAME: usize = 255;
+
+/// One name of a path: 1 to 255 bytes of UTF-8 without `/` and NUL, and neither `.` nor `..`.
+///
+/// Item names of draft-dejong-remotestorage, section 4, with a limit on their length. A contract sees a name as its bytes.
+#[derive(Debug, Drop)]
+pub struct Name {
+    text: Vec<u8>,
+}
+
+impl Model for Name {
+    ghost use Rattle.std.specs.Prelude.{List, ℕ, IsTrue};
+    ghost use Rattle.rs_path.specs.Names.{is_name};
+
+    ghost Value = { List ℕ };
+
+    ghost view = { λ n. n.text.items };
+
+    ghost invariant = { λ n. IsTrue (is_name n.text.items) };
+}
+
+impl Name {
+    /// The name with these bytes, or None where they are no name.
+    pub fn read(alloc: Global, text: &[u8]) -> Result<Option<Name>, NoMemory>
+        ensures read { IfOk result (λ name. name ≡ (if is_name text.now then Some text.now else None)) }
+    {
+        if !is_name(text) {
+            return Ok(None);
+        }
+        Ok(Some(Name {
+            text: Vec::from_slice(alloc, text)?,
+        }))
+    }
+
+    /// The name's bytes.
+    pub fn as_slice(&self) -> &[u8]
+        ensures bytes { result.now ≡ self.now }
+        ensures name { IsTrue (is_name self.now) }
+        ensures some { 0 < length self.now }
+        ensures short { length self.now ≤ 255 }
+    {
+        self.text.as_slice()
+    }
+
+    /// An equal name, from the same allocator.
+    pub fn copy(&self) -> Result<Name, NoMemory>
+        ensures same { IfOk result (λ copied. copied ≡ self.now) }
+    {
+        Ok(Name {
+            text: self.text.clone()?,
+        })
+    }
+}
+
+impl PartialEq for Name {
+    ghost eq = { bytes_eq };
+
+    ghost laws = { partial_equiv_from_equiv nat_list_eq_equiv };
+
+    fn eq(&self, other: &Name) -> bool {
+        self.as_slice() == other.as_slice()
+    }
+}
+
+impl Eq for Name {
+    ghost laws = { nat_list_eq_equiv };
+}
+
+fn is_name(text: &[u8]) -> bool
+    ensures { result ≡ is_name text.now }
+{
+    !text.is_empty()
+        && text.len() <= MAX_NAME
+        && has_no_separator(text)
+        && !is_dots(text)
+        && is_utf8(text)
+}
+
+fn is_utf8(text: &[u8]) -> bool
+    ensures { result ≡ is_utf8 text.now }
+{
+    std::str::from_utf8(text).is_ok()
+}
+
+fn has_no_separator(text: &[u8]) -> bool
+    ensures { result ≡ has_no_separator text.now }
+{
+    text.iter().all(|byte| *byte != b'/' && *byte != 0)
+}
+
+fn is_dots(text: &[u8]) -> bool
+    ensures { result ≡ is_dots text.now }
+{
+    matches!(text, b"." | b"..")
+}
