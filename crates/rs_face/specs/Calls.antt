@@ -24,3 +24,7 @@ after_call calls = record {
   made = one_more calls.made;
   faults = if fails_next calls then one_more calls.faults else calls.faults;
 }
+
+-- after a fault of a call that isn't in the list
+abbrev pub after_fault : Calls → Calls
+after_fault calls = record { failing = calls.failing; made = calls.made; faults = one_more calls.faults }

@@ -1,6 +1,6 @@
 //! Which calls of an object in memory fail.
 ghost use Rattle.std.specs.Prelude.{◌≡◌, ◌<◌, ◌^◌};
-ghost use Rattle.rs_face.specs.Calls.{no_calls, fails_next, after_call};
+ghost use Rattle.rs_face.specs.Calls.{no_calls, fails_next, after_call, after_fault};
 
 use std::marker::Model;
 
@@ -45,5 +45,12 @@ impl Calls {
             self.faults = faults.saturating_add(1);
         }
         fails
+    }
+    /// Counts a fault of a call that isn't in the list.
+    pub(crate) fn fault(&mut self)
+        ensures after { self.new ≡ after_fault self.old }
+        ensures in_range { self.old.faults < 2 ^ 64 }
+    {
+        self.faults = self.faults.saturating_add(1);
     }
 }

@@ -50,10 +50,8 @@ impl Sink for NoFailSink {
         ensures count { IfOk result (λ count. count ≡ length piece.now) }
         ensures err { IfErr result (λ fault. fault ≡ SinkFault.NoMemory) }
     {
-        match self.bytes.extend_from_slice(piece) {
-            Ok(()) => Ok(piece.len()),
-            Err(_) => Err(SinkFault::NoMemory),
-        }
+        self.bytes.extend_from_slice(piece)?;
+        Ok(piece.len())
     }
 
     fn flush(&mut self) -> Result<(), SinkFault>

@@ -5,6 +5,8 @@ ghost use Rattle.std.specs.Io.KnownBytes.{Appends, Keeps, WriteAppends};
 ghost use Rattle.rs_face.specs.Causes.{HasCause};
 ghost use Rattle.rs_face.specs.Told.{StaysTold, AppendsFront};
 
+use std::alloc::AllocError;
+
 /// Why a write or a flush did nothing.
 #[derive(Clone, Copy, Debug, PartialEq, Eq)]
 pub enum SinkFault {
@@ -12,6 +14,16 @@ pub enum SinkFault {
     Failed,
     /// A sink in memory couldn't grow. This is no fault, and isn't counted.
     NoMemory,
+}
+
+impl From<AllocError> for SinkFault {
+    ghost use Rattle.rs_face.specs.declared.sink.SinkFault.TheVariants.{NoMemory};
+
+    ghost from_gives = { λ _ fault. fault ≡ NoMemory };
+
+    fn from(_error: AllocError) -> SinkFault {
+        SinkFault::NoMemory
+    }
 }
 
 /// Bytes that go outside, in order: standard output, a socket, a file.
