@@ -3,9 +3,13 @@ use Rattle.std.specs.Prelude.{ℕ, List, [], ◌∷◌, ◌++◌, Option}
 use Rattle.std.specs.Option.{option_map}
 use Rattle.rs_face.specs.Calls.{Calls}
 
+-- told rows, and these behind them
+abbrev pub with_rows : Option (List (List ℕ)) → List (List ℕ) → Option (List (List ℕ))
+with_rows told more = option_map (λ rows. rows ++ more) told
+
 -- told rows, and one more
 abbrev pub with_row : Option (List (List ℕ)) → List ℕ → Option (List (List ℕ))
-with_row told row = option_map (λ rows. rows ++ row ∷ []) told
+with_row told row = with_rows told (row ∷ [])
 
 -- what is seen of a keeper in memory that fails: its rows and its calls
 pub record KeeperState : Type 0 where

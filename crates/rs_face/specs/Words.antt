@@ -1,13 +1,8 @@
--- What an entropy tells of its words.
-use Rattle.std.specs.Prelude.{ℕ, ◌==◌, Bool, List, ◌∷◌, Option, not, ◌&&◌, length, if◌then◌else◌}
-use Rattle.std.specs.Option.{option_map}
+-- What is seen of an entropy in memory.
+use Rattle.std.specs.Prelude.{ℕ, ◌==◌, Bool, List, not, ◌&&◌, length, if◌then◌else◌}
 use Rattle.rs_face.specs.Calls.{Calls, fails_next, after_call, after_fault}
 
--- told words, and one more in front
-abbrev pub word_before : ℕ → Option (List ℕ) → Option (List ℕ)
-word_before word told = option_map (λ words. word ∷ words) told
-
--- what is seen of an entropy in memory: the words that are left, and its calls
+-- the words that are left, and the calls
 pub record EntropyState : Type 0 where
   pub words : List ℕ
   pub calls : Calls

@@ -1,7 +1,7 @@
 //! Where random words come from.
-ghost use Rattle.std.specs.Prelude.{◌≡◌, ℕ, List, Option, OnOk, OnErr, IfOk};
+ghost use Rattle.std.specs.Prelude.{◌≡◌, ℕ, List, [], ◌∷◌, Option, OnOk, OnErr, IfOk};
+ghost use Rattle.std.specs.Io.KnownBytes.{prepend_known};
 ghost use Rattle.rs_face.specs.Causes.{HasCause};
-ghost use Rattle.rs_face.specs.Words.{word_before};
 
 /// Why no word was drawn.
 #[derive(Clone, Copy, Debug, PartialEq, Eq)]
@@ -20,7 +20,8 @@ pub trait Entropy {
 
     /// Draws the next word. A failed draw takes none.
     fn word(&mut self) -> Result<u64, EntropyFault>
-        ensures ok { IfOk result (λ word. words self.old ≡ word_before word (words self.new)) }
+        ensures ok { IfOk result (λ word.
+            words self.old ≡ prepend_known (word ∷ []) (words self.new)) }
         ensures err { OnErr result (words self.new ≡ words self.old) }
         ensures cause { HasCause (faults self.old) (faults self.new) EntropyFault.Failed result }
         ensures quiet { OnOk result (faults self.new ≡ faults self.old) };
