@@ -2,11 +2,21 @@
 #![tactic(auto)]
 
 mod bytes;
+mod entry;
 mod kind;
 mod name;
 mod no_memory;
+mod path;
+mod path_fault;
+mod reading;
+mod spelling;
+mod tag;
 
 pub use bytes::Bytes;
+pub use entry::Entry;
 pub use kind::Kind;
 pub use name::Name;
 pub use no_memory::NoMemory;
+pub use path::Path;
+pub use path_fault::{PathFault, PathWhy};
+pub use tag::Tag;

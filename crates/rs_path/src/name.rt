@@ -45,6 +45,14 @@ impl Name {
         }))
     }
 
+    // The name of bytes that are one.
+    pub(crate) fn of(text: Vec<u8>) -> Name
+        requires { IsTrue (is_name text.items) }
+        ensures bytes { result ≡ text.items }
+    {
+        Name { text }
+    }
+
     /// The name's bytes.
     pub fn as_slice(&self) -> &[u8]
         ensures bytes { result.now ≡ self.now }
@@ -89,7 +97,7 @@ fn is_name(text: &[u8]) -> bool
         && is_utf8(text)
 }
 
-fn is_utf8(text: &[u8]) -> bool
+pub(crate) fn is_utf8(text: &[u8]) -> bool
     ensures { result ≡ is_utf8 text.now }
 {
     std::str::from_utf8(text).is_ok()
@@ -101,7 +109,7 @@ fn has_no_separator(text: &[u8]) -> bool
     text.iter().all(|byte| *byte != b'/' && *byte != 0)
 }
 
-fn is_dots(text: &[u8]) -> bool
+pub(crate) fn is_dots(text: &[u8]) -> bool
     ensures { result ≡ is_dots text.now }
 {
     matches!(text, b"." | b"..")

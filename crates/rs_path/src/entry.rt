@@ -1,0 +1,44 @@
+//! Items of a folder.
+
+ghost use Rattle.std.specs.Prelude.{◌≡◌, IfOk};
+
+use crate::kind::Kind;
+use crate::name::Name;
+use crate::no_memory::NoMemory;
+use crate::tag::Tag;
+
+/// One item of a folder: a document or a folder in it.
+///
+/// draft-dejong-remotestorage, section 4, folder description.
+#[derive(Debug, Drop)]
+pub struct Entry {
+    /// Its last name.
+    pub name: Name,
+    /// Whether it is a folder.
+    pub folder: bool,
+    /// The version of the item, as an entity tag.
+    pub tag: Tag,
+    /// A document's content type, where it is known.
+    pub kind: Option<Kind>,
+    /// A document's length in bytes, where it is known.
+    pub length: Option<u64>,
+}
+
+impl Entry {
+    /// An equal entry, from the same allocators.
+    pub fn copy(&self) -> Result<Entry, NoMemory>
+        ensures same { IfOk result (λ copied. copied ≡ self.now) }
+    {
+        let kind = match &self.kind {
+            Some(kind) => Some(kind.copy()?),
+            None => None,
+        };
+        Ok(Entry {
+            name: self.name.copy()?,
+            folder: self.folder,
+            tag: self.tag.copy()?,
+            kind,
+            length: self.length,
+        })
+    }
+}
