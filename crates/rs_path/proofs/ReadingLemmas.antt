@@ -74,3 +74,11 @@ is_nil-slice_split [] = refl
 is_nil-slice_split (byte ∷ text) =
     cond_both (is_slash byte) ([] ∷ slice_split is_slash text) (onto_first byte (slice_split is_slash text)) (λ parts. is_nil parts ≡ false)
     (λ _. refl) (λ _. is_nil-onto_first byte (slice_split is_slash text))
+
+-- a segment's fault ends the reading
+pub segments_reading_fault : (name_of : List ℕ → Result (List ℕ) PathWhy) (place : ℕ) (names : List (List ℕ)) (segment : List ℕ) (more : List (List ℕ)) (why : PathWhy)
+    → (is_nil segment && is_nil more) ≡ false → segment_name name_of (length names) segment ≡ Err why
+    → segments_reading name_of place names (segment ∷ more) ≡ Err (Bad why place)
+segments_reading_fault name_of place names segment more why going wrong =
+    segments_reading_more name_of place names segment more going
+    ∙ ap (λ r. go_on r place (λ name. segments_reading name_of (place + length segment + 1) (names ++ name ∷ []) more)) wrong

@@ -31,7 +31,3 @@ parent_at (n ∷ ns) = Some (folder_at (take (length ns) (n ∷ ns)))
 -- the folder that the path is in, with all its names but the last
 abbrev pub parent_of : Path → Option Path
 parent_of path = parent_at path.names
-
--- the path in the folder with this name
-abbrev pub child_at : Path → List ℕ → Bool → Path
-child_at parent name folder = record { names = parent.names ++ name ∷ []; folder = folder }

@@ -1,17 +1,14 @@
 -- Items of a folder.
-use Rattle.std.specs.Prelude.{ℕ, Bool, true, not, ◌&&◌, ◌||◌, List, [], ◌∷◌, ◌++◌, is_none, if◌then◌else◌}
+use Rattle.std.specs.Prelude.{ℕ, Bool, true, not, ◌&&◌, ◌||◌, List, [], ◌∷◌, is_none}
 use Rattle.std.specs.List.{list_all}
-use Rattle.std.specs.declared.cmp.Ordering.{Ordering}
-use Rattle.std.specs.Ordering.{nat_cmp, on, is_lt}
+use Rattle.std.specs.Ordering.{nat_cmp, is_lt}
 use Rattle.std.specs.Cmp.Lexicographic.{slice_cmp}
 use Rattle.rs_path.specs.declared.entry.Entry.{Entry}
+use Rattle.rs_path.specs.Children.{key_of}
 
 -- the key of an item: its name, with `/` at the end of a folder's
-abbrev pub key_of : List ℕ → Bool → List ℕ
-key_of name folder = if folder then name ++ 47 ∷ [] else name
-
 abbrev pub entry_key : Entry → List ℕ
-entry_key entry = key_of entry.name entry.folder
+entry_key entry = key_of (record { name = entry.name; folder = entry.folder })
 
 -- the first key is smaller than the second, byte by byte
 abbrev pub comes_before : Entry → Entry → Bool

@@ -2,7 +2,9 @@ pub mod Names
 pub mod Kinds
 pub mod Tags
 pub mod Paths
+pub mod PathOrder
 pub mod Below
+pub mod Children
 pub mod Targets
 pub mod Readings
 pub mod Items

@@ -2,7 +2,9 @@
 #![tactic(auto)]
 
 mod bytes;
+mod child;
 mod entry;
+mod items;
 mod kind;
 mod name;
 mod no_memory;
@@ -11,9 +13,12 @@ mod path_fault;
 mod reading;
 mod spelling;
 mod tag;
+mod target;
 
 pub use bytes::Bytes;
+pub use child::Child;
 pub use entry::Entry;
+pub use items::Items;
 pub use kind::Kind;
 pub use name::Name;
 pub use no_memory::NoMemory;

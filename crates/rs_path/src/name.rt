@@ -66,6 +66,7 @@ impl Name {
     /// An equal name, from the same allocator.
     pub fn copy(&self) -> Result<Name, NoMemory>
         ensures same { IfOk result (λ copied. copied ≡ self.now) }
+        ensures name { IsTrue (is_name self.now) }
     {
         Ok(Name {
             text: self.text.clone()?,

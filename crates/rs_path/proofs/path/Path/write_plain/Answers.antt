@@ -1,0 +1,8 @@
+use Rattle.rs_path.proofs.RoundTrips.{plain_reading-plain_text}
+use Rattle.rs_path.proofs.path.Path.write_plain.Goals as goal
+
+pub returns-in_err-extend_from_slice-clause-back : goal.returns-in_err-extend_from_slice-clause-back
+returns-in_err-extend_from_slice-clause-back c = rw (← c.self.view_is) (plain_reading-plain_text _ c.self.invariant.path)
+
+pub returns-clause-back : goal.returns-clause-back
+returns-clause-back c = rw (← c.self.view_is) (plain_reading-plain_text _ c.self.invariant.path)

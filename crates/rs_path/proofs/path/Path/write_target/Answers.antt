@@ -1,0 +1,11 @@
+use Rattle.rs_path.proofs.RoundTrips.{target_reading-target_text}
+use Rattle.rs_path.proofs.path.Path.write_target.Goals as goal
+
+pub returns-in_err-text-clause-back : goal.returns-in_err-text-clause-back
+returns-in_err-text-clause-back c = rw (← c.self.view_is) (target_reading-target_text _ c.self.invariant.path)
+
+pub returns-in_err-extend_from_slice-clause-back : goal.returns-in_err-extend_from_slice-clause-back
+returns-in_err-extend_from_slice-clause-back c = rw (← c.self.view_is) (target_reading-target_text _ c.self.invariant.path)
+
+pub returns-clause-back : goal.returns-clause-back
+returns-clause-back c = rw (← c.self.view_is) (target_reading-target_text _ c.self.invariant.path)
