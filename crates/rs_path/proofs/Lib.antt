@@ -5,3 +5,6 @@ pub mod RoundTrips
 pub mod PathLemmas
 pub mod OrderLemmas
 pub mod ItemLemmas
+pub mod BelowLemmas
+pub mod ChildLemmas
+pub mod PrefixLemmas

@@ -54,7 +54,7 @@ escaped_spells = record {
 
 -- ---- a text falls into the segments that it was made of
 
-text_of-cons : (text : List ℕ) (texts : List (List ℕ)) (folder : Bool) → text_of (text ∷ texts) folder ≡ 47 ∷ (text ++ text_of texts folder)
+pub text_of-cons : (text : List ℕ) (texts : List (List ℕ)) (folder : Bool) → text_of (text ∷ texts) folder ≡ 47 ∷ (text ++ text_of texts folder)
 text_of-cons text texts folder = ap (λ t. 47 ∷ t) (append_assoc text (flat_map (λ text. 47 ∷ text) texts) (if folder then 47 ∷ [] else []))
 
 pub slice_split-text_of : (spell : List ℕ → List ℕ) (whole : (name : List ℕ) → is_name name ≡ true → All NoSlash (spell name))
