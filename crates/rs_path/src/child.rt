@@ -6,7 +6,7 @@ use crate::name::Name;
 use crate::no_memory::NoMemory;
 
 /// One step down from a folder: a name in it, and whether it is a folder's.
-#[derive(Debug, Drop)]
+#[derive(Debug, PartialEq, Eq, Drop)]
 pub struct Child {
     pub name: Name,
     pub folder: bool,

@@ -10,7 +10,7 @@ use crate::tag::Tag;
 /// One item of a folder: a document or a folder in it.
 ///
 /// draft-dejong-remotestorage, section 4, folder description.
-#[derive(Debug, Drop)]
+#[derive(Debug, PartialEq, Eq, Drop)]
 pub struct Entry {
     /// Its last name.
     pub name: Name,

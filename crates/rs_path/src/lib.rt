@@ -15,6 +15,8 @@ mod reading;
 mod spelling;
 mod tag;
 mod target;
+#[cfg(test)]
+mod tests;
 
 pub use bytes::Bytes;
 pub use child::Child;

@@ -1,11 +1,11 @@
 //! Paths of documents and folders.
 
-ghost use Rattle.std.specs.Prelude.{◌≡◌, ◌+◌, ◌<◌, ◌≤◌, ◌++◌, true, false, length, Some, None, Ok, IfOk, OnOk, OnErr, IsTrue, map, nat_eq};
+ghost use Rattle.std.specs.Prelude.{◌≡◌, ◌+◌, ◌<◌, ◌≤◌, ◌++◌, ◌||◌, true, false, length, Some, None, Ok, IfOk, OnOk, OnErr, IsTrue, map, nat_eq};
 ghost use Rattle.std.specs.List.{list_all, starts_with};
 ghost use Rattle.std.specs.Str.{bytes_eq};
 ghost use Rattle.rs_path.specs.Names.{is_name};
-ghost use Rattle.rs_path.specs.Paths.{is_path, folder_at, plain_text, text_of};
-ghost use Rattle.rs_path.specs.Below.{parent_at, parent_of, proper_fronts, ancestors_of};
+ghost use Rattle.rs_path.specs.Paths.{is_path, folder_at, same_path, plain_text, text_of};
+ghost use Rattle.rs_path.specs.Below.{is_below, parent_at, parent_of, proper_fronts, ancestors_of};
 ghost use Rattle.rs_path.specs.Children.{child_at};
 ghost use Rattle.rs_path.specs.Targets.{target_text};
 ghost use Rattle.rs_path.specs.Readings.{plain_reading, target_reading, Reads};
@@ -126,6 +126,10 @@ impl Path {
     /// Whether its plain text begins with the other's: of a folder, whether it is that folder or below it.
     pub fn starts_with(&self, folder: &Path) -> bool
         ensures prefix { result ≡ starts_with nat_eq (plain_text self.now) (plain_text folder.now) }
+        ensures below {
+            folder.now.folder ≡ true
+            → result ≡ (same_path folder.now self.now || is_below folder.now self.now)
+        }
     {
         self.plain.starts_with(folder.plain.as_slice())
     }
@@ -178,7 +182,6 @@ impl Path {
 }
 
 impl PartialEq for Path {
-    ghost use Rattle.rs_path.specs.Paths.{same_path};
     ghost use Rattle.rs_path.specs.PathOrder.{same_path_equiv};
     ghost use Rattle.std.specs.Cmp.{partial_equiv_from_equiv};
 
