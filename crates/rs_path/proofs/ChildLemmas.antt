@@ -1,15 +1,14 @@
 -- Children of a folder, and which child leads to a path.
-use Rattle.std.proofs.Common.{◌≡◌, ℕ, Bool, true, false, ◌&&◌, List, [], ◌∷◌, ◌++◌, length, take, Option, Some, None, if◌then◌else◌, arith, refl, sym, ap, ◌∙◌, subst, ◌⊎◌, inl, inr, ⊎_elim}
+use Rattle.std.proofs.Common.{◌≡◌, ℕ, Bool, true, false, ◌&&◌, List, [], ◌∷◌, ◌++◌, length, take, Some, None, arith, refl, sym, ap, ◌∙◌, subst, ◌⊎◌, inl, inr, ⊎_elim}
 use Rattle.std.specs.Option.{is_some}
 use Rattle.std.specs.Str.{bytes_eq}
-use Rattle.std.proofs.lemmas.Bool.{and_from, cond-true, cond-false, cond_both, cases_Bool}
+use Rattle.std.proofs.lemmas.Bool.{and_from, cond-true, cond-false, cases_Bool}
 use Rattle.std.proofs.lemmas.List.{take_at, length_push}
 use Rattle.std.proofs.lemmas.Slice.Eq.{bytes_eq-Decides}
 use Rattle.rs_path.specs.declared.child.Child.{Child}
 use Rattle.rs_path.specs.Paths.{Path, folder_at}
 use Rattle.rs_path.specs.Below.{is_inside, is_below, parent_at, parent_of}
 use Rattle.rs_path.specs.Children.{child_at, child_from, child_towards}
-use Rattle.rs_path.proofs.PathLemmas.{parent_at-some}
 
 itself : (n : List ℕ) → bytes_eq n n ≡ true
 itself n = (bytes_eq-Decides n n).1 refl
@@ -72,11 +71,11 @@ child_from-leads (m ∷ ms) [] folder c there = absurd (cc)
 child_from-leads (m ∷ ms) (n ∷ ns) folder c there =
     ⊎_elim
     (λ same. let rest = child_from-leads ms ns folder c (sym (cond-true _ _ _ same) ∙ there) in
-        let name = (bytes_eq-Decides m n).0 same in
-        ⊎_elim
-        (λ whole. inl (ap (λ t. m ∷ t) whole.0 ∙ ap (λ h. h ∷ ns) name, whole.1))
-        (λ front. inr (front.0, and_from _ _ same front.1))
-        rest)
+    let name = (bytes_eq-Decides m n).0 same in
+    ⊎_elim
+    (λ whole. inl (ap (λ t. m ∷ t) whole.0 ∙ ap (λ h. h ∷ ns) name, whole.1))
+    (λ front. inr (front.0, and_from _ _ same front.1))
+    rest)
     (λ other. let none : None ≡ Some c = sym (cond-false (bytes_eq m n) (child_from ms ns folder) None other) ∙ there in absurd (cc))
     (cases_Bool (bytes_eq m n))
 
@@ -84,7 +83,7 @@ pub child_towards-leads : (f p : Path) (c : Child) → child_towards f p ≡ Som
 child_towards-leads f p c there =
     ⊎_elim
     (λ whole. let Record : List (List ℕ) → Bool → Path = λ ns b. record { names = ns; folder = b } in
-        inl (ap (λ ns. Record ns c.folder) whole.0 ∙ ap (λ b. Record p.names b) whole.1))
+    inl (ap (λ ns. Record ns c.folder) whole.0 ∙ ap (λ b. Record p.names b) whole.1))
     (λ front. inr (and_from _ _ front.0 front.1))
     (child_from-leads f.names p.names p.folder c there)
 

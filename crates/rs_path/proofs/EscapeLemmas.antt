@@ -1,21 +1,18 @@
 -- Names as they stand in a target.
-use Rattle.std.proofs.Common.{◌≡◌, ℕ, ◌+◌, ◌*◌, ◌/◌, ◌%◌, ◌<◌, ◌≤◌, Bool, true, false, not, ◌&&◌, ◌||◌, ◌==◌, nat_lt, if◌then◌else◌, List, [], ◌∷◌, ◌++◌, length, Result, Ok, Err, All, arith, refl, sym, ap, ◌∙◌, ⊎_elim, lt-ltb}
-use Rattle.std.specs.List.{flat_map}
-use Rattle.std.specs.Char.{digit_value, is_digit, is_ascii, is_ascii_alphanumeric}
+use Rattle.std.proofs.Common.{◌≡◌, ℕ, ◌+◌, ◌/◌, ◌%◌, ◌<◌, ◌≤◌, true, false, not, ◌||◌, ◌==◌, nat_lt, List, [], ◌∷◌, ◌++◌, length, Ok, All, arith, refl, sym, ap, ◌∙◌, ⊎_elim, lt-ltb}
+use Rattle.std.specs.Char.{digit_value, is_digit}
 use Rattle.std.specs.Fmt.{digit_glyph}
-use Rattle.std.proofs.lemmas.Bool.{cases_Bool, cond-true, cond-false, cond_both, and_from, agree_below, agree_below_at}
+use Rattle.std.proofs.lemmas.Bool.{cases_Bool, cond-true, cond-false, cond_both, agree_below, agree_below_at}
 use Rattle.std.proofs.lemmas.Bool.Decides.{nat_tests}
-use Rattle.std.proofs.lemmas.List.{append-nil}
-use Rattle.std.proofs.lemmas.List.Elements.{All-nil, All-cons, All-head, All-tail, All-append}
+use Rattle.std.proofs.lemmas.List.Elements.{All-nil, All-cons, All-head, All-tail}
 use Rattle.percent_encoding.specs.AsciiSet.{contains, should_percent_encode}
 use Rattle.percent_encoding.specs.Percent.{percent_encode_byte, percent_encode, percent_decode}
 use Rattle.percent_encoding.proofs.PercentLemmas.{IsByte, percent_encode-nil, percent_encode_escaped, percent_encode_kept, round_trip}
 use Rattle.rs_path.specs.declared.target.TheConstants.{RESERVED}
-use Rattle.rs_path.specs.declared.path_fault.PathWhy.{PathWhy}
 use Rattle.rs_path.specs.Names.{is_name}
 use Rattle.rs_path.specs.Paths.{is_nil}
 use Rattle.rs_path.specs.Targets.{is_unreserved, escape_of, escaped}
-use Rattle.rs_path.specs.Readings.{name_unless, name_fault, plain_name, begins_with_digits, has_whole_escapes, escaped_name, is_slash}
+use Rattle.rs_path.specs.Readings.{name_unless, plain_name, has_whole_escapes, escaped_name, is_slash}
 use Rattle.rs_path.proofs.NameLemmas.{name_bytes, name_fault-name}
 
 -- ---- the set of the crate that escapes is the reserved bytes
@@ -31,10 +28,10 @@ unfolding should_percent_encode
 should_escape byte =
     ⊎_elim
     (λ low. let within : byte < 128 = grind (arith, nat_tests) in
-        ap (λ t. not t || contains RESERVED byte) low
-        ∙ agree_below_at (contains RESERVED) (λ b. not (is_unreserved b)) 128 byte reserved_set within)
+    ap (λ t. not t || contains RESERVED byte) low
+    ∙ agree_below_at (contains RESERVED) (λ b. not (is_unreserved b)) 128 byte reserved_set within)
     (λ high. let beyond : 128 ≤ byte = grind (arith, nat_tests) in
-        ap (λ t. not t || contains RESERVED byte) high ∙ sym (ap not (beyond_ascii byte beyond)))
+    ap (λ t. not t || contains RESERVED byte) high ∙ sym (ap not (beyond_ascii byte beyond)))
     (cases_Bool (nat_lt byte 128))
 
 escape_same : (byte : ℕ) → byte < 256 → percent_encode_byte byte ≡ escape_of byte
@@ -50,12 +47,12 @@ percent_encode-escaped (byte ∷ bytes) small =
     let rest = percent_encode-escaped bytes (All-tail IsByte byte bytes small) in
     ⊎_elim
     (λ kept. let stays : should_percent_encode RESERVED byte ≡ false = should_escape byte ∙ ap not kept in
-        percent_encode_kept RESERVED byte bytes stays ∙ ap (λ t. byte ∷ t) rest ∙ sym (ap (λ t. t ++ escaped bytes) (cond-true _ _ _ kept)))
+    percent_encode_kept RESERVED byte bytes stays ∙ ap (λ t. byte ∷ t) rest ∙ sym (ap (λ t. t ++ escaped bytes) (cond-true _ _ _ kept)))
     (λ reserved. let goes : should_percent_encode RESERVED byte ≡ true = should_escape byte ∙ ap not reserved in
-        percent_encode_escaped RESERVED byte bytes goes
-        ∙ ap (λ t. t ++ percent_encode RESERVED bytes) (escape_same byte (All-head IsByte byte bytes small))
-        ∙ ap (λ t. escape_of byte ++ t) rest
-        ∙ sym (ap (λ t. t ++ escaped bytes) (cond-false _ _ _ reserved)))
+    percent_encode_escaped RESERVED byte bytes goes
+    ∙ ap (λ t. t ++ percent_encode RESERVED bytes) (escape_same byte (All-head IsByte byte bytes small))
+    ∙ ap (λ t. escape_of byte ++ t) rest
+    ∙ sym (ap (λ t. t ++ escaped bytes) (cond-false _ _ _ reserved)))
     (cases_Bool (is_unreserved byte))
 
 -- ---- escaped names are read back
@@ -104,8 +101,8 @@ escaped_without_slash (byte ∷ bytes) small =
     cond_both (is_unreserved byte) (byte ∷ []) (escape_of byte) (λ t. All NoSlash (t ++ escaped bytes))
     (λ kept. All-cons NoSlash byte (escaped bytes) (unreserved_is_plain byte kept).1 rest)
     (λ _. let low = All-cons NoSlash (digit_glyph true (byte % 16)) (escaped bytes) (digit_is_plain (byte % 16) (omega arith)).1 rest in
-        let high = All-cons NoSlash (digit_glyph true (byte / 16)) (digit_glyph true (byte % 16) ∷ escaped bytes) (digit_is_plain (byte / 16) (omega arith)).1 low in
-        All-cons NoSlash 37 (digit_glyph true (byte / 16) ∷ digit_glyph true (byte % 16) ∷ escaped bytes) refl high)
+    let high = All-cons NoSlash (digit_glyph true (byte / 16)) (digit_glyph true (byte % 16) ∷ escaped bytes) (digit_is_plain (byte / 16) (omega arith)).1 low in
+    All-cons NoSlash 37 (digit_glyph true (byte / 16) ∷ digit_glyph true (byte % 16) ∷ escaped bytes) refl high)
 
 -- an escaped text is empty only where the text is
 pub is_nil-escaped : (bytes : List ℕ) → 0 < length bytes → is_nil (escaped bytes) ≡ false

@@ -1,5 +1,5 @@
 -- The order of paths, from their plain texts alone.
-use Rattle.std.proofs.Common.{◌≡◌, ℕ, Bool, true, false, List, refl, sym, ap, ◌∙◌}
+use Rattle.std.proofs.Common.{◌≡◌, true, refl, sym, ap, ◌∙◌}
 use Rattle.std.specs.declared.cmp.Ordering.{Ordering}
 use Rattle.std.specs.declared.cmp.Ordering.TheVariants.{Less, Equal, Greater}
 use Rattle.std.specs.Str.{bytes_eq}
@@ -36,5 +36,5 @@ pub slice_cmp-plain_text : (p q : Path) → is_path p ≡ true → is_path q ≡
 slice_cmp-plain_text p q is_p is_q =
     then_known (slice_cmp nat_cmp (plain_text p) (plain_text q)) (tie_cmp p q)
     (λ tied.
-        let texts = (bytes_eq-Decides (plain_text p) (plain_text q)).0 (texts_ties (plain_text p) (plain_text q) ∙ ap is_eq tied) in
-        ap (tie_cmp p) (sym (same_from_plain_text p q is_p is_q texts)) ∙ tied_itself tie_total p)
+    let texts = (bytes_eq-Decides (plain_text p) (plain_text q)).0 (texts_ties (plain_text p) (plain_text q) ∙ ap is_eq tied) in
+    ap (tie_cmp p) (sym (same_from_plain_text p q is_p is_q texts)) ∙ tied_itself tie_total p)

@@ -1,11 +1,11 @@
 -- Paths made of other paths.
-use Rattle.std.proofs.Common.{◌≡◌, ℕ, ◌+◌, ◌-◌, ◌<◌, ◌≤◌, Bool, true, false, not, ◌&&◌, ◌||◌, nat_le, List, [], ◌∷◌, ◌++◌, length, take, get_or, map, Option, Some, None, arith, refl, sym, ap, ◌∙◌, suc, zero, length-take}
+use Rattle.std.proofs.Common.{◌≡◌, ℕ, ◌+◌, ◌-◌, ◌<◌, ◌≤◌, true, nat_le, List, [], ◌∷◌, ◌++◌, length, take, get_or, map, Some, arith, refl, ap, ◌∙◌, suc, zero, length-take}
 use Rattle.std.specs.List.{list_all}
 use Rattle.std.proofs.lemmas.Bool.{and_parts, and_from}
 use Rattle.std.proofs.lemmas.Bool.Decides.{nat_tests}
 use Rattle.std.proofs.lemmas.List.{take_more, take_all, map-append, length-map, get_or-map}
 use Rattle.rs_path.specs.Names.{is_name}
-use Rattle.rs_path.specs.Paths.{Path, is_nil, is_path, folder_at}
+use Rattle.rs_path.specs.Paths.{Path, is_path, folder_at}
 use Rattle.rs_path.specs.Below.{proper_fronts, parent_at}
 use Rattle.rs_path.proofs.RoundTrips.{HasPath-from}
 

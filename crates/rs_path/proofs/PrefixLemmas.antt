@@ -1,16 +1,15 @@
 -- When one plain text begins with another.
-use Rattle.std.proofs.Common.{◌≡◌, ◌≢◌, ℕ, Bool, true, false, ◌&&◌, ◌||◌, ◌==◌, nat_eq, List, [], ◌∷◌, ◌++◌, length, take, All, arith, refl, sym, ap, ◌∙◌}
+use Rattle.std.proofs.Common.{◌≡◌, ℕ, Bool, true, false, ◌&&◌, ◌||◌, ◌==◌, nat_eq, List, [], ◌∷◌, ◌++◌, All, arith, refl, sym, ap, ◌∙◌}
 use Rattle.std.specs.List.{list_all, starts_with}
 use Rattle.std.specs.Str.{bytes_eq}
 use Rattle.std.specs.Cmp.Lexicographic.{pointwise}
-use Rattle.std.proofs.lemmas.Bool.{and_parts, cases_Bool}
+use Rattle.std.proofs.lemmas.Bool.{and_parts}
 use Rattle.std.proofs.lemmas.Bool.Decides.{nat_tests}
 use Rattle.std.proofs.lemmas.List.Elements.{All-head, All-tail}
 use mathlib.Core.Bool.{beq}
 use Rattle.rs_path.specs.Names.{is_name}
 use Rattle.rs_path.specs.Paths.{Path, is_path, same_path, text_of, plain_text}
 use Rattle.rs_path.specs.Below.{is_inside, is_below}
-use Rattle.rs_path.specs.Readings.{is_slash}
 use Rattle.rs_path.proofs.NameLemmas.{name_without_slash}
 use Rattle.rs_path.proofs.RoundTrips.{text_of-cons, NoSlash, HasPath-from}
 

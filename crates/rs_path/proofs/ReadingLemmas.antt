@@ -1,6 +1,6 @@
 -- How a text is cut and read, one segment after another.
-use Rattle.std.proofs.Common.{◌≡◌, ℕ, ◌+◌, ◌-◌, ◌<◌, ◌≤◌, Bool, true, false, not, ◌&&◌, cond, ltb, if◌then◌else◌, List, [], ◌∷◌, ◌++◌, length, take, drop, get_or, Option, Some, None, Result, Ok, Err, position, arith, refl, sym, ap, ◌∙◌, ⊎_elim}
-use Rattle.std.specs.List.{slice_split, onto_first, position_or_len, All}
+use Rattle.std.proofs.Common.{◌≡◌, ℕ, ◌+◌, ◌<◌, ◌≤◌, false, ◌&&◌, ltb, List, [], ◌∷◌, ◌++◌, length, take, drop, Some, None, Result, Ok, Err, position, arith, refl, sym, ap, ◌∙◌, ⊎_elim}
+use Rattle.std.specs.List.{slice_split, onto_first, position_or_len}
 use Rattle.std.proofs.lemmas.Bool.{cases_Bool, cond-true, cond-false, cond_both}
 use Rattle.std.proofs.lemmas.Bool.Decides.{nat_tests}
 use Rattle.std.proofs.lemmas.List.Elements.{All-from_get_or}
@@ -9,8 +9,8 @@ use Rattle.std.proofs.lemmas.List.Splits.{slice_split_first, slice_split_none}
 use Rattle.rs_path.specs.declared.path_fault.PathWhy.{PathWhy}
 use Rattle.rs_path.specs.declared.path_fault.PathFault.{PathFault}
 use Rattle.rs_path.specs.declared.path_fault.PathFault.TheVariants.{Bad, NoMemory}
-use Rattle.rs_path.specs.Paths.{Path, is_nil, document_at, folder_at}
-use Rattle.rs_path.specs.Readings.{segment_name, go_on, segments_reading, is_slash, rest_parts, Reads, ReadsName}
+use Rattle.rs_path.specs.Paths.{is_nil, folder_at}
+use Rattle.rs_path.specs.Readings.{segment_name, go_on, segments_reading, is_slash, Reads, ReadsName}
 
 -- the text is cut at the first slash
 pub slice_split_at : (text : List ℕ) (end : ℕ) → position is_slash text ≡ Some end
@@ -18,8 +18,8 @@ pub slice_split_at : (text : List ℕ) (end : ℕ) → position is_slash text �
 slice_split_at text end found =
     ⊎_elim
     (λ inside. let within : position_or_len is_slash text < length text = grind (arith, nat_tests, inside) in
-        let here : position_or_len is_slash text ≡ end = let at : Some (position_or_len is_slash text) ≡ Some end = sym (cond-true _ _ _ inside) ∙ found in cc in
-        (rw (← here) within, rw (← here) (slice_split_first is_slash text 0 within)))
+    let here : position_or_len is_slash text ≡ end = let at : Some (position_or_len is_slash text) ≡ Some end = sym (cond-true _ _ _ inside) ∙ found in cc in
+    (rw (← here) within, rw (← here) (slice_split_first is_slash text 0 within)))
     (λ outside. let none : None ≡ Some end = sym (cond-false _ _ _ outside) ∙ found in absurd (cc))
     (cases_Bool (ltb (position_or_len is_slash text) (length text)))
 
@@ -29,7 +29,7 @@ slice_split_whole text none =
     ⊎_elim
     (λ inside. let found : Some (position_or_len is_slash text) ≡ None = sym (cond-true _ _ _ inside) ∙ none in absurd (cc))
     (λ outside. let past : length text ≤ position_or_len is_slash text = grind (arith, nat_tests, outside) in
-        slice_split_none is_slash text (All-from_get_or (λ byte. is_slash byte ≡ false) text 0 (λ i within. fails_before_first is_slash text i 0 (omega arith))))
+    slice_split_none is_slash text (All-from_get_or (λ byte. is_slash byte ≡ false) text 0 (λ i within. fails_before_first is_slash text i 0 (omega arith))))
     (cases_Bool (ltb (position_or_len is_slash text) (length text)))
 
 -- the end of the segments: an empty last one

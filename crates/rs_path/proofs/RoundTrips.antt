@@ -13,7 +13,7 @@ use Rattle.rs_path.specs.declared.path_fault.PathFault.TheVariants.{Bad}
 use Rattle.rs_path.specs.Names.{is_name}
 use Rattle.rs_path.specs.Paths.{Path, is_nil, is_path, text_of, plain_text, document_at, folder_at}
 use Rattle.rs_path.specs.Targets.{escaped, target_text}
-use Rattle.rs_path.specs.Readings.{segment_name, go_on, segments_reading, is_slash, reading, Reads, name_unless, name_fault, plain_name, escaped_name, plain_reading, target_reading}
+use Rattle.rs_path.specs.Readings.{segment_name, segments_reading, is_slash, reading, Reads, name_unless, name_fault, plain_name, escaped_name, plain_reading, target_reading}
 use Rattle.rs_path.proofs.NameLemmas.{HasName-from, name_bytes, name_without_slash}
 use Rattle.rs_path.proofs.EscapeLemmas.{plain_name-name, escaped_name-escaped, escaped_without_slash, is_nil-escaped}
 use Rattle.rs_path.proofs.ReadingLemmas.{segments_reading_name, segments_reading_fault, is_nil-slice_split}
@@ -42,14 +42,14 @@ pub plain_spells : Spells plain_name (λ name. name)
 plain_spells = record {
   back = plain_name-name;
   some = λ name named. is_nil-name name (HasName-from name named).some;
-  whole = name_without_slash
+  whole = name_without_slash;
 }
 
 pub escaped_spells : Spells escaped_name escaped
 escaped_spells = record {
   back = escaped_name-escaped;
   some = λ name named. let has = (HasName-from name named).some in is_nil-escaped name (grind (arith, nat_tests));
-  whole = λ name named. escaped_without_slash name (name_bytes name named)
+  whole = λ name named. escaped_without_slash name (name_bytes name named);
 }
 
 -- ---- a text falls into the segments that it was made of
@@ -179,13 +179,13 @@ made_of place before ((byte ∷ bytes) ∷ more) p read =
     let going : (is_nil (byte ∷ bytes) && is_nil more) ≡ false = refl in
     ⊎_elim
     (λ named.
-        let next = segments_reading_name plain_name place before (byte ∷ bytes) (byte ∷ bytes) more going named in
-        let rest = made_of (place + length (byte ∷ bytes) + 1) (before ++ (byte ∷ bytes) ∷ []) more p (sym next ∙ read) in
-        record {
-          rest = (byte ∷ bytes) ∷ rest.rest;
-          names = rest.names ∙ append_assoc before ((byte ∷ bytes) ∷ []) rest.rest;
-          parts = ap (λ s. (byte ∷ bytes) ∷ s) rest.parts
-        })
+    let next = segments_reading_name plain_name place before (byte ∷ bytes) (byte ∷ bytes) more going named in
+    let rest = made_of (place + length (byte ∷ bytes) + 1) (before ++ (byte ∷ bytes) ∷ []) more p (sym next ∙ read) in
+    record {
+      rest = (byte ∷ bytes) ∷ rest.rest;
+      names = rest.names ∙ append_assoc before ((byte ∷ bytes) ∷ []) rest.rest;
+      parts = ap (λ s. (byte ∷ bytes) ∷ s) rest.parts;
+    })
     (λ faulty. let wrong = segments_reading_fault plain_name place before (byte ∷ bytes) more faulty.0 going faulty.1 in absurd (cc (wrong, read)))
     (plain_segment (length before) (byte ∷ bytes))
 
@@ -204,16 +204,16 @@ plain_text-plain_reading [] p read = absurd (cc)
 plain_text-plain_reading (first ∷ rest) p read =
     ⊎_elim
     (λ slash.
-        let first_is : first ≡ 47 = grind (arith, nat_tests) in
-        let made = made_of 1 [] (slice_split is_slash rest) p (sym (cond-true _ _ _ slash) ∙ read) in
-        let some : is_nil (segments_of p.names p.folder) ≡ false = ap is_nil (ap (λ ns. segments_of ns p.folder) made.names ∙ sym made.parts) ∙ is_nil-slice_split rest in
-        sym (join-segments_of p.names p.folder some)
-        ∙ ap (λ s. 47 ∷ join_with_byte 47 s) (ap (λ ns. segments_of ns p.folder) made.names ∙ sym made.parts)
-        ∙ ap (λ t. 47 ∷ t) (join_with_byte-slice_split 47 rest)
-        ∙ ap (λ b. b ∷ rest) (sym first_is))
-    (λ other. 
-        let wrong : Err (Bad Empty 0) ≡ Ok p = sym (cond-false (is_slash first) (segments_reading plain_name 1 [] (slice_split is_slash rest)) (Err (Bad Empty 0)) other) ∙ read in
-        absurd (cc))
+    let first_is : first ≡ 47 = grind (arith, nat_tests) in
+    let made = made_of 1 [] (slice_split is_slash rest) p (sym (cond-true _ _ _ slash) ∙ read) in
+    let some : is_nil (segments_of p.names p.folder) ≡ false = ap is_nil (ap (λ ns. segments_of ns p.folder) made.names ∙ sym made.parts) ∙ is_nil-slice_split rest in
+    sym (join-segments_of p.names p.folder some)
+    ∙ ap (λ s. 47 ∷ join_with_byte 47 s) (ap (λ ns. segments_of ns p.folder) made.names ∙ sym made.parts)
+    ∙ ap (λ t. 47 ∷ t) (join_with_byte-slice_split 47 rest)
+    ∙ ap (λ b. b ∷ rest) (sym first_is))
+    (λ other.
+    let wrong : Err (Bad Empty 0) ≡ Ok p = sym (cond-false (is_slash first) (segments_reading plain_name 1 [] (slice_split is_slash rest)) (Err (Bad Empty 0)) other) ∙ read in
+    absurd (cc))
     (cases_Bool (is_slash first))
 
 pub canonical : (text : List ℕ) (r : Result Path PathFault) → Reads r (plain_reading text) → IfOk r (λ p. plain_text p ≡ text)

@@ -1,7 +1,7 @@
 -- Which paths lie below a folder, and the folders above a path.
-use Rattle.std.specs.Prelude.{ℕ, ◌-◌, Bool, true, false, ◌&&◌, List, [], ◌∷◌, ◌++◌, length, take, map, Option, Some, None}
+use Rattle.std.specs.Prelude.{ℕ, Bool, true, false, ◌&&◌, List, [], ◌∷◌, length, take, map, Option, Some, None}
 use Rattle.std.specs.Str.{bytes_eq}
-use Rattle.rs_path.specs.Paths.{Path, folder_at, is_nil}
+use Rattle.rs_path.specs.Paths.{Path, folder_at}
 
 -- the first names are a proper prefix of the second
 abbrev pub is_inside : List (List ℕ) → List (List ℕ) → Bool

@@ -67,7 +67,7 @@ abbrev pub segments_reading : (List ℕ → Result (List ℕ) PathWhy) → ℕ �
 segments_reading name_of place names [] = Ok (document_at names)
 segments_reading name_of place names (segment ∷ rest) = if is_nil segment && is_nil rest then Ok (folder_at names)
     else go_on (segment_name name_of (length names) segment) place
-        (λ name. segments_reading name_of (place + length segment + 1) (names ++ name ∷ []) rest)
+    (λ name. segments_reading name_of (place + length segment + 1) (names ++ name ∷ []) rest)
 
 abbrev pub is_slash : ℕ → Bool
 is_slash byte = byte == 47

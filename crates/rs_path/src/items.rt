@@ -30,8 +30,8 @@ impl Model for Items {
     ghost view = { λ i. i.list.items };
 
     ghost invariant = { λ i. record {
-        ascending : IsTrue (is_ascending i.list.items);
-        plain : IsTrue (list_all is_item i.list.items)
+      ascending : IsTrue (is_ascending i.list.items);
+      plain : IsTrue (list_all is_item i.list.items);
     } };
 }
 

@@ -11,12 +11,9 @@ ghost use Rattle.rs_path.specs.Children.{child_at, child_towards};
 pub fn below_laws()
     ensures transitive { (f g p : Path) → is_below f g ≡ true → is_below g p ≡ true → is_below f p ≡ true }
     ensures irreflexive { (p : Path) → is_below p p ≡ false }
-    ensures one_above {
-        (f g p : Path) → is_below f p ≡ true → is_below g p ≡ true
-        → (same_path f g || is_below f g || is_below g f) ≡ true
-    }
-{
-}
+    ensures one_above { (f g p : Path) → is_below f p ≡ true → is_below g p ≡ true
+        → (same_path f g || is_below f g || is_below g f) ≡ true }
+{}
 
 /// The ancestors of a path are the folders that it is below, those of an ancestor first.
 pub fn ancestor_laws()
@@ -24,8 +21,7 @@ pub fn ancestor_laws()
     ensures upwards { (f p : Path) → is_below f p ≡ true → take (length f.names) (ancestors_of p) ≡ ancestors_of f }
     ensures of_parent { (p f : Path) → parent_of p ≡ Some f → ancestors_of p ≡ ancestors_of f ++ f ∷ [] }
     ensures count { (p : Path) → length (ancestors_of p) ≡ length p.names }
-{
-}
+{}
 
 /// A path is a child of its parent, and where it is below a folder, it is a child of the folder or below one.
 pub fn child_laws()
@@ -34,21 +30,13 @@ pub fn child_laws()
     ensures below { (f : Path) (c : Child) → is_below f (child_at f c) ≡ f.folder }
     ensures itself { (f : Path) (c : Child) → child_towards f (child_at f c) ≡ Some c }
     ensures towards { (f p : Path) → f.folder ≡ true → is_some (child_towards f p) ≡ is_below f p }
-    ensures leads {
-        (f p : Path) (c : Child) → child_towards f p ≡ Some c
-        → (child_at f c ≡ p) ⊎ (is_below (child_at f c) p ≡ true)
-    }
-{
-}
+    ensures leads { (f p : Path) (c : Child) → child_towards f p ≡ Some c
+        → (child_at f c ≡ p) ⊎ (is_below (child_at f c) p ≡ true) }
+{}
 
 /// The plain text of a path tells it from every other, and begins with that of each folder that it is or is below.
 pub fn text_laws()
-    ensures apart {
-        (p q : Path) → is_path p ≡ true → is_path q ≡ true → plain_text p ≡ plain_text q → p ≡ q
-    }
-    ensures prefix {
-        (p f : Path) → is_path p ≡ true → is_path f ≡ true → f.folder ≡ true
-        → starts_with nat_eq (plain_text p) (plain_text f) ≡ (same_path f p || is_below f p)
-    }
-{
-}
+    ensures apart { (p q : Path) → is_path p ≡ true → is_path q ≡ true → plain_text p ≡ plain_text q → p ≡ q }
+    ensures prefix { (p f : Path) → is_path p ≡ true → is_path f ≡ true → f.folder ≡ true
+        → starts_with nat_eq (plain_text p) (plain_text f) ≡ (same_path f p || is_below f p) }
+{}

@@ -46,8 +46,8 @@ impl Model for Path {
     ghost view = { λ p. record { names = p.names.items; folder = p.folder } };
 
     ghost invariant = { λ p. record {
-        path : IsTrue (is_path (record { names = p.names.items; folder = p.folder }));
-        text : p.plain.items ≡ text_of p.names.items p.folder
+      path : IsTrue (is_path (record { names = p.names.items; folder = p.folder }));
+      text : p.plain.items ≡ text_of p.names.items p.folder;
     } };
 }
 
@@ -126,10 +126,8 @@ impl Path {
     /// Whether its plain text begins with the other's: of a folder, whether it is that folder or below it.
     pub fn starts_with(&self, folder: &Path) -> bool
         ensures prefix { result ≡ starts_with nat_eq (plain_text self.now) (plain_text folder.now) }
-        ensures below {
-            folder.now.folder ≡ true
-            → result ≡ (same_path folder.now self.now || is_below folder.now self.now)
-        }
+        ensures below { folder.now.folder ≡ true
+            → result ≡ (same_path folder.now self.now || is_below folder.now self.now) }
     {
         self.plain.starts_with(folder.plain.as_slice())
     }

@@ -74,7 +74,13 @@ fn first_slash(text: &[u8]) -> Option<usize>
 }
 
 // The name of the segment that begins at the place, after a number of names.
-fn read_segment(alloc: Global, spelling: Spelling, count: usize, segment: &[u8], place: u32) -> Result<Name, PathFault>
+fn read_segment(
+    alloc: Global,
+    spelling: Spelling,
+    count: usize,
+    segment: &[u8],
+    place: u32,
+) -> Result<Name, PathFault>
     ensures read { ReadsName result place (segment_name (name_by spelling) count segment.now) }
     ensures short { IfOk result (λ _. (count < 32) × (length segment.now ≤ 765)) }
 {

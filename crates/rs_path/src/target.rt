@@ -12,7 +12,13 @@ use percent_encoding::{AsciiSet, NON_ALPHANUMERIC, ascii_set, percent_encode};
 use std::alloc::Global;
 
 /// Every byte of ASCII but letters, digits, `-`, `.`, `_` and `~` (RFC 3986, section 2.3).
-const RESERVED: AsciiSet = ascii_set!(NON_ALPHANUMERIC.remove(b'-').remove(b'.').remove(b'_').remove(b'~'));
+const RESERVED: AsciiSet = ascii_set!(
+    NON_ALPHANUMERIC
+        .remove(b'-')
+        .remove(b'.')
+        .remove(b'_')
+        .remove(b'~')
+);
 
 /// The names escaped, each behind a slash, and a slash at the end of a folder.
 pub(crate) fn target_of(alloc: Global, names: &[Name], folder: bool) -> Result<String, NoMemory>

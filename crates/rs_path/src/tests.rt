@@ -111,7 +111,10 @@ fn each_cause_is_told_of_the_last_segment(rt: HostRuntime) -> Result<(), Fail> {
         let text = deep(rt.alloc(), 31, end)?;
         assert_eq!(rt; fault_of(rt.alloc(), text.as_slice()), Some((why, 63)));
         let text = deep(rt.alloc(), 32, end)?;
-        assert_eq!(rt; fault_of(rt.alloc(), text.as_slice()), Some((PathWhy::Deep, 65)));
+        assert_eq!(rt;
+            fault_of(rt.alloc(), text.as_slice()),
+            Some((PathWhy::Deep, 65))
+        );
     }
     Ok(())
 }
@@ -130,7 +133,10 @@ fn plain_texts_have_no_escapes(rt: HostRuntime) -> Result<(), Fail> {
         assert_eq!(rt; plain_fault_of(rt.alloc(), text), Some((why, place)));
     }
     let path = Path::read_plain(rt.alloc(), b"/%2F/%")?;
-    assert_eq!(rt; target_of(rt.alloc(), &path)?.as_slice(), b"/%252F/%25".as_slice());
+    assert_eq!(rt;
+        target_of(rt.alloc(), &path)?.as_slice(),
+        b"/%252F/%25".as_slice()
+    );
     Ok(())
 }
 
@@ -140,11 +146,17 @@ fn names_have_at_most_255_bytes(rt: HostRuntime) -> Result<(), Fail> {
     assert_eq!(rt; fault_of(rt.alloc(), fits.as_slice()), None);
     assert!(rt; Path::read(rt.alloc(), fits.as_slice()).is_ok());
     let over = long(rt.alloc(), b"%C3%A9", 128, b"/b")?;
-    assert_eq!(rt; fault_of(rt.alloc(), over.as_slice()), Some((PathWhy::NameLong, 1)));
+    assert_eq!(rt;
+        fault_of(rt.alloc(), over.as_slice()),
+        Some((PathWhy::NameLong, 1))
+    );
     let plain = long(rt.alloc(), b"a", 255, b"")?;
     assert!(rt; Path::read_plain(rt.alloc(), plain.as_slice()).is_ok());
     let plain = long(rt.alloc(), b"a", 256, b"")?;
-    assert_eq!(rt; plain_fault_of(rt.alloc(), plain.as_slice()), Some((PathWhy::NameLong, 1)));
+    assert_eq!(rt;
+        plain_fault_of(rt.alloc(), plain.as_slice()),
+        Some((PathWhy::NameLong, 1))
+    );
     Ok(())
 }
 
@@ -154,7 +166,10 @@ fn paths_have_at_most_32_names(rt: HostRuntime) -> Result<(), Fail> {
         let text = deep(rt.alloc(), 32, end)?;
         assert_eq!(rt; Path::read(rt.alloc(), text.as_slice())?.depth(), 32);
         let text = deep(rt.alloc(), 33, end)?;
-        assert_eq!(rt; fault_of(rt.alloc(), text.as_slice()), Some((PathWhy::Deep, 65)));
+        assert_eq!(rt;
+            fault_of(rt.alloc(), text.as_slice()),
+            Some((PathWhy::Deep, 65))
+        );
     }
     Ok(())
 }
@@ -166,7 +181,10 @@ fn paths_are_read_and_written(rt: HostRuntime) -> Result<(), Fail> {
     assert_eq!(rt; path.names().len(), 2);
     assert_eq!(rt; path.names()[0].as_slice(), b"caf\xC3\xA9".as_slice());
     assert_eq!(rt; path.names()[1].as_slice(), b"a b".as_slice());
-    assert_eq!(rt; target_of(alloc, &path)?.as_slice(), b"/caf%C3%A9/a%20b".as_slice());
+    assert_eq!(rt;
+        target_of(alloc, &path)?.as_slice(),
+        b"/caf%C3%A9/a%20b".as_slice()
+    );
     let plain = plain_of(alloc, &path)?;
     assert_eq!(rt; plain.as_slice(), b"/caf\xC3\xA9/a b".as_slice());
     assert!(rt; Path::read_plain(alloc, plain.as_slice())? == path);
@@ -179,7 +197,10 @@ fn parents_ancestors_and_children(rt: HostRuntime) -> Result<(), Fail> {
     let alloc = rt.alloc();
     let path = Path::read(alloc, b"/caf%C3%A9/a%20b")?;
     let parent = path.parent()?.ok_or("no parent")?;
-    assert_eq!(rt; target_of(alloc, &parent)?.as_slice(), b"/caf%C3%A9/".as_slice());
+    assert_eq!(rt;
+        target_of(alloc, &parent)?.as_slice(),
+        b"/caf%C3%A9/".as_slice()
+    );
     let ancestors = path.ancestors()?;
     assert_eq!(rt; ancestors.len(), 2);
     assert_eq!(rt; target_of(alloc, &ancestors[0])?.as_slice(), ROOT);
@@ -214,21 +235,42 @@ fn a_folder_isnt_the_document_of_its_name(rt: HostRuntime) -> Result<(), Fail> {
 #[test]
 fn names_kinds_and_tags(rt: HostRuntime) -> Result<(), Fail> {
     let alloc = rt.alloc();
-    for text in [b"".as_slice(), b".".as_slice(), b"..".as_slice(), b"a/b".as_slice(), b"\0".as_slice(), b"\xFF".as_slice()] {
+    for text in [
+        b"".as_slice(),
+        b".".as_slice(),
+        b"..".as_slice(),
+        b"a/b".as_slice(),
+        b"\0".as_slice(),
+        b"\xFF".as_slice(),
+    ] {
         assert!(rt; Name::read(alloc, text)?.is_none());
     }
     assert!(rt; Name::read(alloc, b"...")?.is_some());
-    for text in [b"".as_slice(), b" a".as_slice(), b"a ".as_slice(), b"a\t".as_slice(), b"\x7F".as_slice()] {
+    for text in [
+        b"".as_slice(),
+        b" a".as_slice(),
+        b"a ".as_slice(),
+        b"a\t".as_slice(),
+        b"\x7F".as_slice(),
+    ] {
         assert!(rt; Kind::read(alloc, text)?.is_none());
     }
     let kind = Kind::read(alloc, b"text/plain")?.ok_or("no kind")?;
     assert_eq!(rt; kind.copy()?.as_slice(), b"text/plain".as_slice());
-    for text in [b"".as_slice(), b"\"".as_slice(), b"a b".as_slice(), b"\x7F".as_slice()] {
+    for text in [
+        b"".as_slice(),
+        b"\"".as_slice(),
+        b"a b".as_slice(),
+        b"\x7F".as_slice(),
+    ] {
         assert!(rt; Tag::read(alloc, text)?.is_none());
     }
     let tag = Tag::read(alloc, b"2")?.ok_or("no tag")?;
     assert!(rt; Tag::of(alloc, 2)? == tag);
-    assert_eq!(rt; Tag::of(alloc, u64::MAX)?.copy()?.as_slice(), b"18446744073709551615".as_slice());
+    assert_eq!(rt;
+        Tag::of(alloc, u64::MAX)?.copy()?.as_slice(),
+        b"18446744073709551615".as_slice()
+    );
     Ok(())
 }
 

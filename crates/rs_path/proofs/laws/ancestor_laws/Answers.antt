@@ -6,5 +6,5 @@ returns c = record {
   members = ancestors_of-any;
   upwards = ancestors_of-ancestor;
   of_parent = ancestors_of-parent;
-  count = length-ancestors_of
+  count = length-ancestors_of;
 }

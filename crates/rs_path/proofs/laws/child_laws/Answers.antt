@@ -8,5 +8,5 @@ returns c = record {
   below = is_below-child_at;
   itself = child_towards-child_at;
   towards = is_some-child_towards;
-  leads = child_towards-leads
+  leads = child_towards-leads;
 }

@@ -1,4 +1,4 @@
-use Rattle.std.proofs.Common.{◌≡◌, sym}
+use Rattle.std.proofs.Common.{sym}
 use Rattle.std.proofs.lemmas.List.{take_rest}
 use Rattle.rs_path.proofs.ReadingLemmas.{slice_split_at, slice_split_whole}
 use Rattle.rs_path.proofs.reading.cut.Goals as goal

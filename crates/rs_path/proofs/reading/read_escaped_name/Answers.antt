@@ -1,5 +1,4 @@
-use Rattle.std.proofs.Common.{◌≡◌, ◌<◌, ◌≤◌, None, length, sym, ap, ◌∙◌, arith}
-use Rattle.percent_encoding.specs.Percent.{percent_decode}
+use Rattle.std.proofs.Common.{◌≡◌, None, length, sym, ap, ◌∙◌, arith}
 use Rattle.percent_encoding.proofs.PercentLemmas.{length-percent_decode}
 use Rattle.rs_path.specs.Readings.{name_fault}
 use Rattle.rs_path.proofs.NameLemmas.{is_name-from_fault, length-from_fault}

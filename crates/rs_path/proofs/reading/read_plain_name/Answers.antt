@@ -1,4 +1,4 @@
-use Rattle.std.proofs.Common.{◌≡◌, sym}
+use Rattle.std.proofs.Common.{sym}
 use Rattle.rs_path.proofs.NameLemmas.{is_name-from_fault}
 use Rattle.rs_path.proofs.reading.read_plain_name.Goals as goal
 

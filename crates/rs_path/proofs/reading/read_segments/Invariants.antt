@@ -7,10 +7,10 @@ use Rattle.rs_path.proofs.reading.read_segments.Given as goal
 abbrev pub invariant-segments : goal.invariant-segments
 invariant-segments l = record {
   same : segments_reading (name_by l.fn.spelling) 1 [] (slice_split is_slash l.fn.text)
-    ≡ segments_reading (name_by l.fn.spelling) l.place l.names.items (slice_split is_slash l.rest);
+      ≡ segments_reading (name_by l.fn.spelling) l.place l.names.items (slice_split is_slash l.rest);
   named : list_all is_name l.names.items ≡ true;
   few : vec_len l.names ≤ 32;
-  near : l.place ≤ 1 + 766 * vec_len l.names
+  near : l.place ≤ 1 + 766 * vec_len l.names;
 }
 
 abbrev pub decreases-segments : goal.decreases-segments

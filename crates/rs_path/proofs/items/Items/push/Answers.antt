@@ -12,5 +12,5 @@ invariant_of-self-2 c =
     rw c.in_ok-push.ensures.items
     record {
       ascending = is_ascending-push entries c.args.item c.self.invariant.ascending above;
-      plain = is_item-push entries c.args.item c.self.invariant.plain c.requires.plain
+      plain = is_item-push entries c.args.item c.self.invariant.plain c.requires.plain;
     }
