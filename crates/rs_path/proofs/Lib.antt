@@ -5,6 +5,7 @@ pub mod RoundTrips
 pub mod PathLemmas
 pub mod OrderLemmas
 pub mod ItemLemmas
+pub mod KeyLemmas
 pub mod BelowLemmas
 pub mod ChildLemmas
 pub mod PrefixLemmas

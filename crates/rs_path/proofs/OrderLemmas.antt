@@ -19,7 +19,8 @@ bytes_eq-plain_text p q is_p is_q =
     (λ texts. (same_path-Decides p q).1 (same_from_plain_text p q is_p is_q ((bytes_eq-Decides (plain_text p) (plain_text q)).0 texts)))
     (λ same. (bytes_eq-Decides (plain_text p) (plain_text q)).1 (ap plain_text ((same_path-Decides p q).0 same)))
 
-then_known : (r s : Ordering) → (r ≡ Equal → s ≡ Equal) → r ≡ ordering_then r s
+-- what is known without the tie is known with it
+pub then_known : (r s : Ordering) → (r ≡ Equal → s ≡ Equal) → r ≡ ordering_then r s
 then_known Less s rest = refl
 then_known Equal s rest = sym (rest refl)
 then_known Greater s rest = refl

@@ -1,15 +1,21 @@
 -- The children of a folder: a name, and whether it is a folder's.
 use Rattle.std.specs.Prelude.{ℕ, Bool, true, List, [], ◌∷◌, ◌++◌, Option, Some, None, if◌then◌else◌}
 use Rattle.std.specs.declared.cmp.Ordering.{Ordering}
-use Rattle.std.specs.Ordering.{nat_cmp, bool_cmp, on, then_cmp}
+use Rattle.std.specs.Ordering.{nat_cmp, bool_cmp, on, then_cmp, eq_of_both}
 use Rattle.std.specs.Cmp.Lexicographic.{slice_cmp}
 use Rattle.std.specs.Str.{bytes_eq}
+use mathlib.Core.Bool.{beq}
 use Rattle.rs_path.specs.declared.child.Child.{Child}
+use Rattle.rs_path.specs.Keys.{key_text}
 use Rattle.rs_path.specs.Paths.{Path}
 
 -- the name, with `/` at the end of a folder's
 abbrev pub key_of : Child → List ℕ
-key_of child = if child.folder then child.name ++ 47 ∷ [] else child.name
+key_of child = key_text child.name child.folder
+
+-- the same name, and both folders or neither
+abbrev pub same_child : Child → Child → Bool
+same_child = eq_of_both (on (λ (child : Child). child.name) bytes_eq) (on (λ (child : Child). child.folder) beq)
 
 -- the order of the keys, byte by byte; the rest tells apart only what has no name
 abbrev pub child_cmp : Child → Child → Ordering

@@ -4,11 +4,11 @@ use Rattle.std.specs.List.{list_all}
 use Rattle.std.specs.Ordering.{nat_cmp, is_lt}
 use Rattle.std.specs.Cmp.Lexicographic.{slice_cmp}
 use Rattle.rs_path.specs.declared.entry.Entry.{Entry}
-use Rattle.rs_path.specs.Children.{key_of}
+use Rattle.rs_path.specs.Keys.{key_text}
 
 -- the key of an item: its name, with `/` at the end of a folder's
 abbrev pub entry_key : Entry → List ℕ
-entry_key entry = key_of (record { name = entry.name; folder = entry.folder })
+entry_key entry = key_text entry.name entry.folder
 
 -- the first key is smaller than the second, byte by byte
 abbrev pub comes_before : Entry → Entry → Bool

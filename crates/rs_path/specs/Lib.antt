@@ -4,7 +4,9 @@ pub mod Tags
 pub mod Paths
 pub mod PathOrder
 pub mod Below
+pub mod Keys
 pub mod Children
+pub mod ChildOrder
 pub mod Targets
 pub mod Readings
 pub mod Items

@@ -37,12 +37,12 @@ path_cmp_total =
     then_total (on_total plain_text nat_list_cmp_total)
     (then_total (on_total (λ (p : Path). p.names) (lists_total nat_list_cmp_total)) (on_total (λ (p : Path). p.folder) bool_cmp_total))
 
-is_eq-then : (r s : Ordering) → is_eq (ordering_then r s) ≡ (is_eq r && is_eq s)
+pub is_eq-then : (r s : Ordering) → is_eq (ordering_then r s) ≡ (is_eq r && is_eq s)
 is_eq-then Less s = refl
 is_eq-then Equal s = refl
 is_eq-then Greater s = refl
 
-booleans_tie : (a b : Bool) → beq a b ≡ is_eq (bool_cmp a b)
+pub booleans_tie : (a b : Bool) → beq a b ≡ is_eq (bool_cmp a b)
 booleans_tie true true = refl
 booleans_tie true false = refl
 booleans_tie false true = refl

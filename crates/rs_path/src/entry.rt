@@ -1,11 +1,16 @@
 //! Items of a folder.
 
 ghost use Rattle.std.specs.Prelude.{◌≡◌, IfOk};
+ghost use Rattle.std.specs.Ordering.{nat_cmp};
+ghost use Rattle.std.specs.Cmp.Lexicographic.{slice_cmp};
+ghost use Rattle.rs_path.specs.Items.{entry_key};
 
+use crate::key::compare_keys;
 use crate::kind::Kind;
 use crate::name::Name;
 use crate::no_memory::NoMemory;
 use crate::tag::Tag;
+use std::cmp::Ordering;
 
 /// One item of a folder: a document or a folder in it.
 ///
@@ -25,6 +30,18 @@ pub struct Entry {
 }
 
 impl Entry {
+    /// The order of the keys, byte by byte; a folder's key is its name and `/`. It takes no memory.
+    pub fn cmp_key(&self, other: &Entry) -> Ordering
+        ensures order { result ≡ slice_cmp nat_cmp (entry_key self.now) (entry_key other.now) }
+    {
+        compare_keys(
+            self.name.as_slice(),
+            self.folder,
+            other.name.as_slice(),
+            other.folder,
+        )
+    }
+
     /// An equal entry, from the same allocators.
     pub fn copy(&self) -> Result<Entry, NoMemory>
         ensures same { IfOk result (λ copied. copied ≡ self.now) }

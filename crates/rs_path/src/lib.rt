@@ -5,6 +5,7 @@ mod bytes;
 mod child;
 mod entry;
 mod items;
+mod key;
 mod kind;
 mod laws;
 mod name;
