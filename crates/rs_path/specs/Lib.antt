@@ -10,3 +10,4 @@ pub mod ChildOrder
 pub mod Targets
 pub mod Readings
 pub mod Items
+pub mod SameEntries

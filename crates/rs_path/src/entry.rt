@@ -15,7 +15,7 @@ use std::cmp::Ordering;
 /// One item of a folder: a document or a folder in it.
 ///
 /// draft-dejong-remotestorage, section 4, folder description.
-#[derive(Debug, PartialEq, Eq, Drop)]
+#[derive(Debug, Drop)]
 pub struct Entry {
     /// Its last name.
     pub name: Name,
@@ -58,4 +58,27 @@ impl Entry {
             length: self.length,
         })
     }
+}
+
+impl PartialEq for Entry {
+    ghost use Rattle.std.specs.Cmp.{partial_equiv_from_equiv};
+    ghost use Rattle.rs_path.specs.SameEntries.{same_entry, same_entry_equiv};
+
+    ghost eq = { same_entry };
+
+    ghost laws = { partial_equiv_from_equiv same_entry_equiv };
+
+    fn eq(&self, other: &Entry) -> bool {
+        self.name == other.name
+            && self.folder == other.folder
+            && self.tag == other.tag
+            && self.kind == other.kind
+            && self.length == other.length
+    }
+}
+
+impl Eq for Entry {
+    ghost use Rattle.rs_path.specs.SameEntries.{same_entry_equiv};
+
+    ghost laws = { same_entry_equiv };
 }

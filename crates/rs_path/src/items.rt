@@ -75,6 +75,25 @@ impl Items {
     }
 }
 
+impl PartialEq for Items {
+    ghost use Rattle.std.specs.Cmp.{partial_equiv_from_equiv};
+    ghost use Rattle.rs_path.specs.SameEntries.{same_entries, same_entries_equiv};
+
+    ghost eq = { same_entries };
+
+    ghost laws = { partial_equiv_from_equiv same_entries_equiv };
+
+    fn eq(&self, other: &Items) -> bool {
+        self.list.as_slice() == other.list.as_slice()
+    }
+}
+
+impl Eq for Items {
+    ghost use Rattle.rs_path.specs.SameEntries.{same_entries_equiv};
+
+    ghost laws = { same_entries_equiv };
+}
+
 fn copy_of(entries: &[Entry], alloc: Global) -> Result<Vec<Entry>, NoMemory>
     ensures { IfOk result (λ copied. copied.items ≡ entries.now) }
 {

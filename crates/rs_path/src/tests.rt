@@ -3,7 +3,7 @@
 
 ghost use Rattle.std.specs.Prelude.{◌≡◌, true, None, IfOk};
 
-use crate::{Bytes, Entry, Items, Kind, Name, NoMemory, Path, PathFault, PathWhy, Tag};
+use crate::{Bytes, Child, Entry, Items, Kind, Name, NoMemory, Path, PathFault, PathWhy, Tag};
 use std::alloc::Global;
 use std::cmp::Ordering;
 use std::collections::BTreeMap;
@@ -295,6 +295,28 @@ fn items_are_appended_and_copied(rt: HostRuntime) -> Result<(), Fail> {
     assert_eq!(rt; items.as_slice().len(), 1);
     let copied = items.copy()?;
     assert_eq!(rt; copied.as_slice().len(), 1);
+    assert!(rt; copied == items);
     assert!(rt; copied.as_slice()[0].copy()? == items.as_slice()[0]);
+    Ok(())
+}
+
+#[test]
+fn keys_are_ordered_with_their_slash(rt: HostRuntime) -> Result<(), Fail> {
+    let alloc = rt.alloc();
+    let name = Name::read(alloc, b"a")?.ok_or("no name")?;
+    let longer = Name::read(alloc, b"a-b")?.ok_or("no name")?;
+    let folder = Child {
+        name: name.copy()?,
+        folder: true,
+    };
+    let document = Child {
+        name: longer.copy()?,
+        folder: false,
+    };
+    assert_eq!(rt; document.cmp(&folder), Ordering::Less);
+    assert!(rt; folder.copy()? == folder);
+    let first = folder_entry(alloc, longer)?;
+    let second = folder_entry(alloc, name)?;
+    assert_eq!(rt; first.cmp_key(&second), Ordering::Less);
     Ok(())
 }
