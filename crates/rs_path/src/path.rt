@@ -1,9 +1,7 @@
 //! Paths of documents and folders.
 
-ghost use Rattle.std.specs.Prelude.{◌≡◌, ◌+◌, ◌<◌, ◌≤◌, ◌++◌, ◌||◌, true, false, length, Some, None, Ok, IfOk, OnOk, OnErr, IsTrue, map, nat_eq};
-ghost use Rattle.std.specs.List.{list_all, starts_with};
-ghost use Rattle.std.specs.Str.{bytes_eq};
-ghost use Rattle.rs_path.specs.Names.{is_name};
+ghost use Rattle.std.specs.Prelude.{◌≡◌, ◌<◌, ◌≤◌, ◌++◌, ◌||◌, true, false, length, Ok, IfOk, OnOk, OnErr, IsTrue, map, nat_eq};
+ghost use Rattle.std.specs.List.{starts_with};
 ghost use Rattle.rs_path.specs.Paths.{is_path, folder_at, same_path, plain_text, text_of};
 ghost use Rattle.rs_path.specs.Below.{is_below, parent_at, parent_of, proper_fronts, ancestors_of};
 ghost use Rattle.rs_path.specs.Children.{child_at};
@@ -89,6 +87,7 @@ impl Path {
     /// Whether the path is a folder's.
     pub fn is_folder(&self) -> bool
         ensures folder { result ≡ self.now.folder }
+        ensures named { result ≡ false → 0 < length self.now.names }
     {
         self.folder
     }
