@@ -2,6 +2,7 @@ pub mod NameLemmas
 pub mod ReadingLemmas
 pub mod EscapeLemmas
 pub mod RoundTrips
+pub mod TextLemmas
 pub mod PathLemmas
 pub mod OrderLemmas
 pub mod ItemLemmas

@@ -1,10 +1,12 @@
 //! Laws of paths: what lies below what, and their orders. Each function does nothing: its contract is the law.
 
-ghost use Rattle.std.specs.Prelude.{◌≡◌, ◌⊎◌, ◌||◌, ◌++◌, [], ◌∷◌, true, false, length, take, Some, is_some, nat_eq, IsTrue, ◌↔◌};
+ghost use Rattle.std.specs.Prelude.{◌≡◌, ◌≤◌, ◌⊎◌, ◌||◌, ◌++◌, [], ◌∷◌, true, false, length, take, Some, is_some, nat_eq, IsTrue, ◌↔◌};
 ghost use Rattle.std.specs.Cmp.{IsTotalOrder};
 ghost use Rattle.std.specs.Cmp.Lexicographic.{slice_cmp};
 ghost use Rattle.std.specs.Ordering.{nat_cmp, is_eq};
-ghost use Rattle.std.specs.List.{list_any, starts_with};
+ghost use Rattle.std.specs.List.{list_all, list_any, starts_with};
+ghost use Rattle.std.specs.Str.{is_utf8};
+ghost use Rattle.rs_path.specs.Targets.{is_target_byte, target_text};
 ghost use Rattle.rs_path.specs.declared.child.Child.{Child};
 ghost use Rattle.rs_path.specs.Paths.{Path, is_path, same_path, plain_text, path_cmp};
 ghost use Rattle.rs_path.specs.Below.{is_below, ancestors_of, parent_of};
@@ -38,11 +40,15 @@ pub fn child_laws()
         → (child_at f c ≡ p) ⊎ (is_below (child_at f c) p ≡ true) }
 {}
 
-/// The plain text of a path tells it from every other, and begins with that of each folder that it is or is below.
+/// The plain text of a path tells it from every other, and begins with that of each folder that it is or is
+/// below. It is UTF-8 of at most 8,193 bytes, and a target has unreserved bytes, `%` and `/` alone.
 pub fn text_laws()
     ensures apart { (p q : Path) → is_path p ≡ true → is_path q ≡ true → plain_text p ≡ plain_text q → p ≡ q }
     ensures prefix { (p f : Path) → is_path p ≡ true → is_path f ≡ true → f.folder ≡ true
         → starts_with nat_eq (plain_text p) (plain_text f) ≡ (same_path f p || is_below f p) }
+    ensures short { (p : Path) → is_path p ≡ true → length (plain_text p) ≤ 8193 }
+    ensures utf8 { (p : Path) → is_path p ≡ true → is_utf8 (plain_text p) ≡ true }
+    ensures target { (p : Path) → is_path p ≡ true → list_all is_target_byte (target_text p) ≡ true }
 {}
 
 /// The order of paths is total, only equal paths tie, and it is that of their plain texts.
