@@ -1,4 +1,5 @@
 pub mod NameLemmas
+pub mod AsciiLemmas
 pub mod ReadingLemmas
 pub mod EscapeLemmas
 pub mod RoundTrips

@@ -1,6 +1,6 @@
 //! Laws of paths: what lies below what, and their orders. Each function does nothing: its contract is the law.
 
-ghost use Rattle.std.specs.Prelude.{◌≡◌, ◌≤◌, ◌⊎◌, ◌||◌, ◌++◌, [], ◌∷◌, true, false, length, take, Some, is_some, nat_eq, IsTrue, ◌↔◌};
+ghost use Rattle.std.specs.Prelude.{◌≡◌, ◌≤◌, ◌⊎◌, ◌||◌, ◌++◌, [], ◌∷◌, true, false, not, length, take, Some, is_some, nat_eq, IsTrue, ◌↔◌};
 ghost use Rattle.std.specs.Cmp.{IsTotalOrder};
 ghost use Rattle.std.specs.Cmp.Lexicographic.{slice_cmp};
 ghost use Rattle.std.specs.Ordering.{nat_cmp, is_eq};
@@ -8,7 +8,7 @@ ghost use Rattle.std.specs.List.{list_all, list_any, starts_with};
 ghost use Rattle.std.specs.Str.{is_utf8};
 ghost use Rattle.rs_path.specs.Targets.{is_target_byte, target_text};
 ghost use Rattle.rs_path.specs.declared.child.Child.{Child};
-ghost use Rattle.rs_path.specs.Paths.{Path, is_path, same_path, plain_text, path_cmp};
+ghost use Rattle.rs_path.specs.Paths.{Path, is_nil, folder_at, is_path, same_path, plain_text, path_cmp};
 ghost use Rattle.rs_path.specs.Below.{is_below, ancestors_of, parent_of};
 ghost use Rattle.rs_path.specs.Children.{key_of, same_child, child_cmp, child_at, child_towards};
 ghost use Rattle.rs_path.specs.Names.{is_name};
@@ -17,6 +17,7 @@ ghost use Rattle.rs_path.specs.Names.{is_name};
 pub fn below_laws()
     ensures transitive { (f g p : Path) → is_below f g ≡ true → is_below g p ≡ true → is_below f p ≡ true }
     ensures irreflexive { (p : Path) → is_below p p ≡ false }
+    ensures root { (p : Path) → is_below (folder_at []) p ≡ not (is_nil p.names) }
     ensures one_above { (f g p : Path) → is_below f p ≡ true → is_below g p ≡ true
         → (same_path f g || is_below f g || is_below g f) ≡ true }
 {}
