@@ -13,9 +13,6 @@ module _ {A : Type 0} where
   pub begins_longer : (a b c : List A) → StartsWith a b → StartsWith (a ++ c) b
   begins_longer a b c s = (s.0 ++ c, ap (λ (z : List A). z ++ c) s.1 ∙ append_assoc b s.0 c)
 
-  pub begins_through : (a b c : List A) → StartsWith a b → StartsWith b c → StartsWith a c
-  begins_through a b c s t = (t.0 ++ s.0, s.1 ∙ (ap (λ (z : List A). z ++ s.0) t.1 ∙ append_assoc c t.0 s.0))
-
 module _ {W : Type 0} where
   pub of_append : (n : ℕ) (a b : List (Entry W)) → entries_of n (a ++ b) ≡ entries_of n a ++ entries_of n b
   of_append n a b = filter-append (λ (e : Entry W). eqb e.who n) a b

@@ -1,5 +1,5 @@
 -- The parts of the rule, each over a step that does not concern it.
-use Rattle.std.proofs.Common.{◌≡◌, ℕ, ◌<◌, ◌≤◌, min, List, set, Option, sym, ap, subst, arith}
+use Rattle.std.proofs.Common.{◌≡◌, ℕ, ◌<◌, ◌≤◌, min, List, [], ◌∷◌, set, Option, sym, ap, subst, arith}
 use mathlib.Core.Option as home
 use lib.ListN.{get_elem?}
 use Rattle.rs_turn.specs.declared.entry.Entry.{Entry}
@@ -8,6 +8,10 @@ use Rattle.rs_turn.specs.declared.board.Stage.{Stage}
 use Rattle.rs_turn.specs.declared.board.Stage.TheVariants.{Idle, Waiting, Holding, Looked, Drew}
 use Rattle.rs_turn.specs.Rule.{is_queued, is_drawing, has_drawn, is_busy, queued, holding, drawing, named, SeatFits, Seats, InTurn, Queue, HistoryFits, Slot, History}
 use Rattle.rs_turn.proofs.Tallies.{set_each, tally_set}
+
+-- the four words of the table
+abbrev pub four : ℕ → ℕ → ℕ → ℕ → List ℕ
+four a b c d = a ∷ b ∷ c ∷ d ∷ []
 
 -- a stage in which no seat is being numbered
 abbrev pub IsQuiet : Stage → Type 0

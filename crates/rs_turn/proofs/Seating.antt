@@ -15,10 +15,7 @@ use Rattle.rs_turn.specs.Rule.{is_queued, is_holding, is_drawing, has_drawn, is_
 use Rattle.rs_turn.specs.Plays.{most_seats, drawn_number, at_stage, having_seen, knowing_made, parted, informed, spent, Sees, Numbers, Counts, Adopts}
 use Rattle.rs_turn.proofs.Tallies.{put, put_here, put_else, set_each, push_each, tally_set, tally_push, tally_le}
 use Rattle.rs_turn.proofs.Histories.{begins_itself, of_front, of_between}
-use Rattle.rs_turn.proofs.Parts.{unqueued, seats_stay, queue_stays, history_stays}
-
-abbrev four : ℕ → ℕ → ℕ → ℕ → List ℕ
-four a b c d = a ∷ b ∷ c ∷ d ∷ []
+use Rattle.rs_turn.proofs.Parts.{four, unqueued, seats_stay, queue_stays, history_stays}
 
 -- what a draw of the number n leaves the seat with, which has it or not
 drawn_is : (n : ℕ) (b : Bool) (c : ℕ) → cond b (Drew n) Idle ≡ Drew c → c ≡ n

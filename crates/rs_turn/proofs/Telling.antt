@@ -14,11 +14,11 @@ own_more : {W : Type 0} (who : ℕ) (a b : List (Entry W)) (e : Option W) → en
 own_more who a b None same = same
 own_more who a b (Some x) same = of_extended who a x ∙ ap (λ (h : List (Entry _)). h ++ entry who x ∷ []) same
 
-module _ {V W G A : Type 0} (stands : V → List (Entry W) → Type 0) (basis_of : V → G) (adds : V → ℕ → Option W) (shows : G → List (Entry W) → ℕ → List (Entry W) → A → Type 0) where
-  pub tells : (v w : V) (basis : Option G) (who more front : ℕ) (old mid new : List (Entry W)) (answer : A)
-      → Acted stands basis_of adds shows v w mid who more front answer → stands v mid → Some (basis_of v) ≡ basis → StartsWith mid old → entries_of who mid ≡ entries_of who old
-      → new ≡ extended mid who (added more (adds v who)) → TookTurn stands basis_of adds shows basis who old new answer
-  tells v w basis who more front old mid new answer acted stood same begins own after = record {
+module _ {V W G A D : Type 0} (stands : V → List (Entry W) → Type 0) (basis_of : V → G) (adds : V → ℕ → Option W) (shows : G → List (Entry W) → ℕ → List (Entry W) → A → D → Type 0) where
+  pub tells : (v w : V) (basis : Option G) (who more front : ℕ) (old mid new : List (Entry W)) (answer : A) (deed' : D)
+      → Acted stands basis_of adds shows v w mid who more front answer deed' → stands v mid → Some (basis_of v) ≡ basis → StartsWith mid old → entries_of who mid ≡ entries_of who old
+      → new ≡ extended mid who (added more (adds v who)) → TookTurn stands basis_of adds shows basis who old new answer deed'
+  tells v w basis who more front old mid new answer deed' acted stood same begins own after = record {
     before = mid;
     value = v;
     taken = added more (adds v who);
@@ -28,5 +28,5 @@ module _ {V W G A : Type 0} (stands : V → List (Entry W) → Type 0) (basis_of
     chosen = none_or more (adds v who);
     after = after;
     own = ap (entries_of who) after ∙ own_more who mid old (added more (adds v who)) own;
-    shown = subst (λ (h : List (Entry W)). shows (basis_of v) mid who h answer) (sym after) acted.shown;
+    shown = subst (λ (h : List (Entry W)). shows (basis_of v) mid who h answer deed') (sym after) acted.shown;
   }

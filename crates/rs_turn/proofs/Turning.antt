@@ -18,11 +18,10 @@ use Rattle.rs_turn.specs.Plays.{at_stage, having_seen, having_booked, Draws, Loo
 use Rattle.rs_turn.proofs.Tallies.{put, put_here, put_else, same_at, set_each, tally_set, tally_at, tally_le, some_above}
 use Rattle.rs_turn.proofs.Histories.{begins_itself, begins_extended, of_other, length_extended}
 use Rattle.rs_turn.specs.Places.{count}
-use Rattle.rs_turn.proofs.Parts.{seats_stay, queue_stays, history_stays}
+use Rattle.rs_turn.proofs.Parts.{four, seats_stay, queue_stays, history_stays}
 
--- the words at the start of a step, and after it
-abbrev four : ℕ → ℕ → ℕ → ℕ → List ℕ
-four a b c d = a ∷ b ∷ c ∷ d ∷ []
+waited : {a b : ℕ} → Waiting a ≡ Waiting b → a ≡ b
+waited e = cc
 
 -- another view's ticket, where one ticket more is drawn
 drawn_after : (last first : ℕ) (turn : ℕ → ℕ) (id j : ℕ) (s : Stage) → InTurn last first turn j s → InTurn (last + 1) first (put turn last id) j s
@@ -144,9 +143,6 @@ module _ {B W G : Type 0} (stands : B → List (Entry W) → Type 0) (basis_of :
         subst (Kept stands basis_of g) (λ i. record { words = sym words i; homes = s.homes; views = sym views i }) k,
         λ t' waits'. (λ hit. absurd (miss (hit ∙ ap (λ n. n % 2 ^ 64) (waited (sym waits' ∙ waits)))), λ _. refl),
       )
-    where
-      waited : {a b : ℕ} → Waiting a ≡ Waiting b → a ≡ b
-      waited e = cc
 
   -- a look that finds the seat's ticket takes the value out
   takes_turn : (s : State (Option B) (View W G)) (k : Kept stands basis_of g s) (id t : ℕ) (m : Me (Option B) (View W G)) → get_elem? s.views id ≡ home.some m.0 → m.0.stage ≡ Waiting t → m.1 ≡ []
@@ -182,9 +178,6 @@ module _ {B W G : Type 0} (stands : B → List (Entry W) → Type 0) (basis_of :
           λ miss. absurd (miss (found ∙ ap (λ n. n % 2 ^ 64) (waited (sym waits ∙ waits')))),
         ),
       )
-    where
-      waited : {a b : ℕ} → Waiting a ≡ Waiting b → a ≡ b
-      waited e = cc
 
   -- who is about something has a number
   numbered : (s : State (Option B) (View W G)) (k : Kept stands basis_of g s) (id : ℕ) (v : View W G) → get_elem? s.views id ≡ home.some v → 0 < is_busy v.stage → 0 < v.number

@@ -15,9 +15,9 @@ use std::marker::Model;
 use std::snapshot::Snapshot;
 use std::sync::Wait;
 
-/// A lock whose callers take turns in the order of their tickets, and whose turns make one history.
+/// A lock whose callers take turns, each by a `Seat` of its own, and whose turns make one history.
 ///
-/// Clauses see which lock it is and the basis of its value. A seat is of this lock where the seat's `lock` is the lock.
+/// Clauses see which lock it is, and the `basis` of its value. A seat is of this lock where the seat's `lock` is the lock.
 #[derive(Drop)]
 pub struct TurnLock<V: Held> {
     pub(crate) table: Owned<V>,

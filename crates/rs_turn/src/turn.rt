@@ -27,7 +27,7 @@ struct Done<A> {
 fn act<V: Held, D: Deed<V>>(deed: &mut D, value: &mut V, who: u64) -> Done<D::Answer>
     requires { (h : List (Entry V.What)) × V.stands value.old h }
     ensures basis { V.basis value.new ≡ V.basis value.old }
-    ensures acted { (h : List (Entry V.What)) → V.stands value.old h → Acted V.stands V.basis (D.adds deed.old) (λ g h who h' a. D.shows deed.old g h who h' a deed.new) value.old value.new h who result.more result.front result.answer }
+    ensures acted { (h : List (Entry V.What)) → V.stands value.old h → Acted V.stands V.basis (D.adds deed.old) (D.shows deed.old) value.old value.new h who result.more result.front result.answer deed.new }
 {
     let before = value.len();
     let answer = deed.act(value, who);
@@ -52,7 +52,7 @@ fn turn<V: Held, D: Deed<V>, R: Wait>(
     requires who { who ≡ place.old.me.0.number }
     ensures table { place.new.table_id ≡ place.old.table_id }
     ensures rest { (place.new.me.1 ≡ []) × (place.new.me.0 ≡ having_seen place.old.me.0 place.new.me.0.seen) }
-    ensures turn { TookTurn V.stands V.basis (D.adds deed.old) (λ g h who h' a. D.shows deed.old g h who h' a deed.new) place.old.me.0.basis who place.old.me.0.seen place.new.me.0.seen result.0 }
+    ensures turn { TookTurn V.stands V.basis (D.adds deed.old) (D.shows deed.old) place.old.me.0.basis who place.old.me.0.seen place.new.me.0.seen result.0 deed.new }
     ensures front { result.1 ≡ length place.new.me.0.seen }
 {
     let mut value = take(rt, board, place);
@@ -82,7 +82,7 @@ impl<V: Held> TurnLock<V> {
         deed: &mut D,
     ) -> D::Answer
         requires { seat.old.lock ≡ self.now }
-        ensures turn { TookTurn V.stands V.basis (D.adds deed.old) (λ g h who h' a. D.shows deed.old g h who h' a deed.new) self.now.basis seat.old.who seat.old.list seat.new.list result }
+        ensures turn { TookTurn V.stands V.basis (D.adds deed.old) (D.shows deed.old) self.now.basis seat.old.who seat.old.list seat.new.list result deed.new }
         ensures faults { seat.new.faults ≡ cond (D.is_failed result) (min (seat.old.faults + 1) (2 ^ 64 - 1)) seat.old.faults }
         ensures rest { seat.new ≡ record seat.old { list = seat.new.list; faults = seat.new.faults } }
     {

@@ -21,4 +21,4 @@ returns-clause-turn g c =
     ∙ (ap (λ (n : ℕ). extended mid n (added more (g.D.Deed.adds c.of-asked.result.value c.of-was.result.value c.args.who))) who
     ∙ (ap (λ d. extended mid c.args.who (added more (g.D.Deed.adds d c.of-was.result.value c.args.who))) asked
     ∙ ap (λ v. extended mid c.args.who (added more (g.D.Deed.adds c.args.deed.now v c.args.who))) was))) in
-    tells _ _ _ _ _ _ _ _ _ _ _ _ _ _ (c.act-done.ensures.acted _ stood) stood (ap (λ v. Some (g.V.Held.basis v)) (sym lent) ∙ took.3) took.4 same after
+    tells _ _ _ _ _ _ _ _ _ _ _ _ _ _ _ (c.act-done.ensures.acted _ stood) stood (ap (λ v. Some (g.V.Held.basis v)) (sym lent) ∙ took.3) took.4 same after
