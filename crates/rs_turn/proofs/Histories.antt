@@ -3,7 +3,7 @@ use Rattle.std.proofs.Common.{◌≡◌, ◌≢◌, ℕ, ◌+◌, cond, eqb, eq-
 use Rattle.std.proofs.lemmas.List.{append-nil, nil_from_length}
 use Rattle.std.proofs.lemmas.List.Elements.{filter-append}
 use Rattle.rs_turn.specs.declared.entry.Entry.{Entry}
-use Rattle.rs_turn.specs.Places.{count}
+use Rattle.rs_turn.specs.Places.{grown_by}
 use Rattle.rs_turn.specs.History.{StartsWith, entry, entries_of, extended}
 
 module _ {A : Type 0} where
@@ -41,6 +41,6 @@ module _ {W : Type 0} where
   begins_extended a b who None s = s
   begins_extended a b who (Some x) s = begins_longer a b (entry who x ∷ []) s
 
-  pub length_extended : (h : List (Entry W)) (who : ℕ) (e : Option W) → length (extended h who e) ≡ length h + count e
+  pub length_extended : (h : List (Entry W)) (who : ℕ) (e : Option W) → length (extended h who e) ≡ length h + grown_by e
   length_extended h who None = omega arith
   length_extended h who (Some x) = length-append h (entry who x ∷ []) ∙ omega arith

@@ -17,7 +17,7 @@ use Rattle.rs_turn.specs.Rule.{tally, is_queued, is_holding, is_drawing, has_dra
 use Rattle.rs_turn.specs.Plays.{at_stage, having_seen, having_booked, Draws, Looks, Books, Passes}
 use Rattle.rs_turn.proofs.Tallies.{put, put_here, put_else, same_at, set_each, tally_set, tally_at, tally_le, some_above}
 use Rattle.rs_turn.proofs.Histories.{begins_itself, begins_extended, of_other, length_extended}
-use Rattle.rs_turn.specs.Places.{count}
+use Rattle.rs_turn.specs.Places.{grown_by}
 use Rattle.rs_turn.proofs.Parts.{four, seats_stay, queue_stays, history_stays}
 
 waited : {a b : ℕ} → Waiting a ≡ Waiting b → a ≡ b
@@ -205,7 +205,7 @@ module _ {B W G : Type 0} (stands : B → List (Entry W) → Type 0) (basis_of :
             (λ n d empty. of_other n v.number k.log e (λ z. other (sym (fit.drawn n d).0 ∙ (ap k.owner (sym z) ∙ mine))) ∙ empty) old.stage;
       }
 
-  pub books : (slots id : ℕ) (m : Me (Option B) (View W G)) (t n : ℕ) (e : Option W) → m.0.stage ≡ Holding t → n ≡ count e → length m.0.seen + n < 2 ^ 64
+  pub books : (slots id : ℕ) (m : Me (Option B) (View W G)) (t n : ℕ) (e : Option W) → m.0.stage ≡ Holding t → n ≡ grown_by e → length m.0.seen + n < 2 ^ 64
       → Allows (Kept stands basis_of g) slots id m 2 (λ r. (r + n) % 2 ^ 64) (Books e m)
   books slots id m t n e holds counted room s k one at small =
       let v = m.0 in

@@ -14,10 +14,10 @@ abbrev pub added : {W : Type 0} → ℕ → Option W → Option W
 added zero e = None
 added (suc n) e = e
 
--- 1 for an entry, 0 for none
-abbrev pub count : {W : Type 0} → Option W → ℕ
-count None = 0
-count (Some x) = 1
+-- by how much a history grows: 1 for an entry, 0 for none
+abbrev pub grown_by : {W : Type 0} → Option W → ℕ
+grown_by None = 0
+grown_by (Some x) = 1
 
 module _ {S W G : Type 0} where
   abbrev pub IsPlaceOf : TableId → Seat S (View W G) → Type 0

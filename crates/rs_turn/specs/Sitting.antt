@@ -30,4 +30,5 @@ pub record IsSplitFrom {W G : Type 0} (from from' s : Sitting W G) : Type 0 wher
   pub later : from.made < s.who
   pub known : from'.made ≡ s.who
   pub made : s.made ≡ s.who
+  -- and was drawn within the limit
   pub few : s.who ≤ most_seats

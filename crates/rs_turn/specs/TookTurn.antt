@@ -2,7 +2,7 @@
 use Rattle.std.specs.Prelude.{◌≡◌, ℕ, ◌+◌, ◌^◌, ◌<◌, ◌⊎◌, List, length, Option, Some, None}
 use Rattle.rs_turn.specs.declared.entry.Entry.{Entry}
 use Rattle.rs_turn.specs.History.{StartsWith, entries_of, extended}
-use Rattle.rs_turn.specs.Places.{added, count}
+use Rattle.rs_turn.specs.Places.{added, grown_by}
 
 module _ {V W G A D : Type 0} (stands : V → List (Entry W) → Type 0) (basis_of : V → G) (adds : V → ℕ → Option W) (shows : G → List (Entry W) → ℕ → List (Entry W) → A → D → Type 0) where
   -- the deed was done once, on a value with the lock's basis that stood for a history which begins with all that the seat had seen
@@ -20,10 +20,10 @@ module _ {V W G A D : Type 0} (stands : V → List (Entry W) → Type 0) (basis_
     pub own : entries_of who new ≡ extended (entries_of who old) who taken
     pub shown : shows (basis_of value) before who new answer deed'
 
-  -- where the value v became w, the history h and so many entries more
+  -- what the deed did to the value v, which became w, where v stood for the history h
   pub record Acted (v w : V) (h : List (Entry W)) (who more front : ℕ) (answer : A) (deed' : D) : Type 0 where
     pub stands_after : stands w (extended h who (added more (adds v who)))
     pub shown : shows (basis_of v) h who (extended h who (added more (adds v who))) answer deed'
-    pub grown : more ≡ count (added more (adds v who))
+    pub grown : more ≡ grown_by (added more (adds v who))
     pub front_is : front ≡ length (extended h who (added more (adds v who)))
     pub fits : length h + more < 2 ^ 64

@@ -1,7 +1,7 @@
 //! The single steps of a seat on the table.
 ghost use Rattle.std.specs.Prelude.{◌≡◌, ℕ, ◌+◌, ◌^◌, ◌<◌, ◌⊎◌, [], ◌∷◌, length};
 ghost use Rattle.rs_turn.specs.declared.board.Stage.TheVariants.{Idle, Waiting, Holding, Looked, Drew};
-ghost use Rattle.rs_turn.specs.Places.{IsPlaceOf, IsAtRest, count};
+ghost use Rattle.rs_turn.specs.Places.{IsPlaceOf, IsAtRest, grown_by};
 ghost use Rattle.rs_turn.specs.Plays.{Draws, Books, Passes, Sees, Numbers, Counts, Adopts, Looks, at_stage, parted, informed, spent};
 ghost use Rattle.rs_turn.specs.History.{StartsWith};
 
@@ -42,7 +42,7 @@ pub(crate) fn book<E: Told<V::What>, V: Held, D>(
 )
     requires place { IsPlaceOf board.now.table_id place.old }
     requires holds { (t : ℕ) × (place.old.me.0.stage ≡ Holding t) }
-    requires entry { more ≡ count E.entry }
+    requires entry { more ≡ grown_by E.entry }
     requires room { length place.old.me.0.seen + more < 2 ^ 64 }
     ensures table { place.new.table_id ≡ place.old.table_id }
     ensures booked { Books E.entry place.old.me 0 place.new.me }

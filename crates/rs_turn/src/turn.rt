@@ -74,7 +74,8 @@ impl<V: Held> TurnLock<V> {
     ///
     /// `act` is called once, on a value that has the lock's basis and stands for a history which begins with all that the seat had seen,
     /// and the answer is that call's. The seat has then seen the history as it was after the call. Its `faults` rise by one where the
-    /// answer is a failed one, and at the greatest `u64` they stay. The lock's own part takes no memory.
+    /// answer is a failed one, and at the greatest `u64` they stay. The lock's own part takes no memory. A deed that takes a turn at the
+    /// same lock waits for ever.
     pub fn with_turn<D: Deed<V>, R: Wait>(
         &self,
         rt: &R,
