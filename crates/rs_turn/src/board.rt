@@ -1,0 +1,66 @@
+//! The table that the seats of a lock share.
+//!
+//! Word 0 counts the tickets drawn and word 1 those served, both modulo 2 to the 64th. Word 2 is the length of the history, and word 3 the
+//! number of the last seat that was numbered. The one slot holds the value, but for the time from the look that finds a seat's ticket to its pass.
+use crate::entry::Entry;
+use crate::held::Held;
+use atomic_table::{Seat, Shared, Table, TableRule};
+use std::alloc::Global;
+use std::collections::LinkedList;
+use std::snapshot::Snapshot;
+
+pub(crate) const TICKET: usize = 0;
+
+pub(crate) const SERVING: usize = 1;
+
+pub(crate) const COUNT: usize = 2;
+
+pub(crate) const MADE: usize = 3;
+
+/// What a seat is about. Tickets are counted without end here, so that no two are the same. No value of it is made.
+pub enum Stage {
+    Idle,
+    /// It has drawn this ticket.
+    Waiting(u64),
+    /// Its ticket is served, and it has the value.
+    Holding(u64),
+    /// It has looked at how many seats were numbered, and may number one.
+    Looked,
+    /// It has drawn this number for a new seat.
+    Drew(u64),
+}
+
+/// What a seat knows. No value of it is made.
+pub struct View<W, G> {
+    pub basis: Option<G>,
+    /// The history as far as the seat has seen it.
+    pub seen: LinkedList<Entry<W>>,
+    /// What another seat told it of the history.
+    pub told: LinkedList<Entry<W>>,
+    /// The seat's number. 0 has none: a note from one seat to another.
+    pub number: u64,
+    /// At least so many seats were numbered.
+    pub made: u64,
+    pub stage: Stage,
+}
+
+/// The rule of the table.
+pub struct Turns;
+
+impl<V: Held> TableRule<Option<Box<V, Global>>, View<V::What, V::Basis>, Snapshot<V>> for Turns {
+    ghost use Rattle.rs_turn.specs.Rule.{Kept, opened};
+
+    ghost holds = { λ k. Kept (λ b. V.stands b.value) (λ b. V.basis b.value) (V.basis k.value) };
+
+    ghost first = { λ k. opened (V.basis k.value) };
+}
+
+type Slot<V> = Option<Box<V, Global>>;
+
+type Known<V> = View<<V as Held>::What, <V as Held>::Basis>;
+
+pub(crate) type Owned<V> = Table<Slot<V>, Known<V>, Snapshot<V>, Turns, Global>;
+
+pub(crate) type Board<V> = Shared<Slot<V>, Known<V>, Snapshot<V>, Turns>;
+
+pub(crate) type Place<V> = Seat<Slot<V>, Known<V>>;

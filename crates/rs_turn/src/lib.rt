@@ -1,0 +1,25 @@
+//! The turn lock: all callers of one value take turns, and what they do is one history.
+#![tactic(auto)]
+
+mod board;
+mod deed;
+mod entry;
+mod held;
+mod lock;
+mod meeting;
+mod plays;
+mod seat;
+mod seat_fault;
+mod splitting;
+mod steps;
+#[cfg(test)]
+mod tests;
+mod turn;
+mod waiting;
+
+pub use deed::Deed;
+pub use entry::Entry;
+pub use held::Held;
+pub use lock::TurnLock;
+pub use seat::Seat;
+pub use seat_fault::SeatFault;
