@@ -1,0 +1,14 @@
+pub mod FieldLemmas
+pub mod HeadLemmas
+pub mod SearchLemmas
+pub mod InputLemmas
+pub mod FormLemmas
+pub mod MessageLemmas
+pub mod ReplyLemmas
+pub mod HistoryLemmas
+pub mod SendLemmas
+pub mod OutputLemmas
+pub mod ServeLemmas
+pub mod DivisionLemmas
+pub mod LawfulLemmas
+pub mod RunLemmas

@@ -1,0 +1,13 @@
+use Rattle.std.proofs.Common.{◌≡◌, ◌≤◌, take, true}
+use Rattle.std.specs.List.{list_all}
+use Rattle.std.specs.Char.{is_ascii_digit}
+use Rattle.std.specs.Str.Parse.{digits_value}
+use Rattle.rs_cli.specs.Histories.{max_body}
+use Rattle.rs_cli.proofs.fields.small_value.Given as goal
+
+abbrev pub invariant-loop-byte : goal.invariant-loop-byte
+invariant-loop-byte l = record {
+  value : l.value ≡ digits_value 10 (take l.byte-index l.text);
+  small : l.value ≤ max_body;
+  digits : list_all is_ascii_digit (take l.byte-index l.text) ≡ true;
+}
