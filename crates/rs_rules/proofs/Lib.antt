@@ -1,0 +1,15 @@
+pub mod FindLemmas
+pub mod Replay
+pub mod DocLemmas
+pub mod StepLaws
+pub mod VersionLaws
+pub mod PointLaws
+pub mod LawfulLaws
+pub mod SettleLaws
+pub mod GrowthLaws
+pub mod TakenLaws
+pub mod SoundLaws
+pub mod ReadingLemmas
+pub mod Samples
+pub mod Examples
+pub mod StepTable
