@@ -1,5 +1,5 @@
 -- What lies below what, and the folders above.
-use Rattle.std.proofs.Common.{◌≡◌, ℕ, ◌+◌, ◌≤◌, Bool, true, false, ◌&&◌, ◌||◌, List, [], ◌∷◌, ◌++◌, length, take, map, Some, arith, refl, sym, ap, ◌∙◌, subst, suc, zero}
+use Rattle.std.proofs.Common.{◌≡◌, ℕ, ◌+◌, ◌≤◌, Bool, true, false, not, ◌&&◌, ◌||◌, List, [], ◌∷◌, ◌++◌, length, take, map, Some, arith, refl, sym, ap, ◌∙◌, subst, suc, zero}
 use Rattle.std.specs.List.{list_any}
 use Rattle.std.specs.Str.{bytes_eq}
 use Rattle.std.specs.Cmp.Lexicographic.{pointwise}
@@ -8,7 +8,7 @@ use Rattle.std.proofs.lemmas.Bool.Decides.{nat_tests}
 use Rattle.std.proofs.lemmas.List.{take-map, length-map}
 use Rattle.std.proofs.lemmas.Slice.Eq.{bytes_eq-Decides}
 use mathlib.Core.Bool.{beq}
-use Rattle.rs_path.specs.Paths.{Path, same_path, folder_at}
+use Rattle.rs_path.specs.Paths.{Path, is_nil, same_path, folder_at}
 use Rattle.rs_path.specs.Below.{is_inside, is_below, proper_fronts, ancestors_of, parent_at, parent_of}
 use Rattle.rs_path.proofs.PathLemmas.{ancestors_more, ancestors_all, length-proper_fronts}
 
@@ -58,6 +58,14 @@ is_below-trans f g p low high =
 
 pub is_below-itself : (p : Path) → is_below p p ≡ false
 is_below-itself p = and_right p.folder (is_inside p.names p.names) (is_inside-itself p.names)
+
+names_below_root : (ns : List (List ℕ)) → is_inside [] ns ≡ not (is_nil ns)
+names_below_root [] = refl
+names_below_root (n ∷ ns) = refl
+
+-- all but `/` is below it
+pub is_below-root : (p : Path) → is_below (folder_at []) p ≡ not (is_nil p.names)
+is_below-root p = names_below_root p.names
 
 pub one_below : (f g p : Path) → is_below f p ≡ true → is_below g p ≡ true → (same_path f g || is_below f g || is_below g f) ≡ true
 one_below f g p first second =

@@ -1,7 +1,9 @@
 pub mod NameLemmas
+pub mod AsciiLemmas
 pub mod ReadingLemmas
 pub mod EscapeLemmas
 pub mod RoundTrips
+pub mod TextLemmas
 pub mod PathLemmas
 pub mod OrderLemmas
 pub mod ItemLemmas

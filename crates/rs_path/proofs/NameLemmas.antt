@@ -1,5 +1,5 @@
 -- When bytes are a name, and what a name keeps.
-use Rattle.std.proofs.Common.{◌≡◌, ℕ, ◌+◌, ◌/◌, ◌%◌, ◌<◌, ◌≤◌, Bool, true, false, not, ◌&&◌, ◌==◌, nat_lt, nat_le, if◌then◌else◌, List, [], ◌∷◌, length, Option, Some, None, All, arith, refl, subst, ⊎_elim, lt-ltb}
+use Rattle.std.proofs.Common.{◌≡◌, ℕ, ◌+◌, ◌/◌, ◌%◌, ◌<◌, ◌≤◌, Bool, true, false, not, ◌&&◌, ◌==◌, nat_lt, nat_le, if◌then◌else◌, List, [], ◌∷◌, length, Option, Some, None, All, IsUtf8, arith, refl, subst, ⊎_elim, lt-ltb}
 use Rattle.std.specs.List.{list_any}
 use Rattle.std.specs.Str.{is_utf8}
 use Rattle.std.proofs.lemmas.Bool.{and_from, and_parts, or_parts, or_from, cond_both}
@@ -138,6 +138,10 @@ All-encodes [] all = All-nil IsByte
 All-encodes (c ∷ cs) all =
     let parts = and_parts (scalar c) (scalars cs) all in
     All-append IsByte (encode c) (encodes cs) (All-encode c parts.0) (All-encodes cs parts.1)
+
+-- a name is UTF-8
+pub name_text : (name : List ℕ) → is_name name ≡ true → IsUtf8 name
+name_text name named = IsUtf8-from_is_utf8 name (HasName-from name named).text
 
 -- the bytes of a name fit a byte
 pub name_bytes : (name : List ℕ) → is_name name ≡ true → All IsByte name

@@ -17,6 +17,10 @@ escape_of byte = 37 ∷ digit_glyph true (byte / 16) ∷ digit_glyph true (byte 
 abbrev pub escaped : List ℕ → List ℕ
 escaped bytes = flat_map (λ byte. if is_unreserved byte then byte ∷ [] else escape_of byte) bytes
 
+-- what the path of a target is made of
+abbrev pub is_target_byte : ℕ → Bool
+is_target_byte byte = is_unreserved byte || byte == 37 || byte == 47
+
 -- the path's text, with its names escaped
 abbrev pub target_text : Path → List ℕ
 target_text p = text_of (map escaped p.names) p.folder

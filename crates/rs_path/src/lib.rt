@@ -24,7 +24,7 @@ pub use child::Child;
 pub use entry::Entry;
 pub use items::Items;
 pub use kind::Kind;
-pub use laws::{ancestor_laws, below_laws, child_laws, text_laws};
+pub use laws::{ancestor_laws, below_laws, child_laws, child_order_laws, order_laws, text_laws};
 pub use name::Name;
 pub use no_memory::NoMemory;
 pub use path::Path;

@@ -1,6 +1,6 @@
 //! Names of documents and folders.
 
-ghost use Rattle.std.specs.Prelude.{◌≡◌, ◌<◌, ◌≤◌, length, Some, None, IfOk, IsTrue, if◌then◌else◌};
+ghost use Rattle.std.specs.Prelude.{◌≡◌, ◌<◌, ◌≤◌, length, Some, None, IfOk, IsTrue, IsUtf8, if◌then◌else◌};
 ghost use Rattle.std.specs.Cmp.{partial_equiv_from_equiv};
 ghost use Rattle.std.proofs.lemmas.Cmp.{nat_list_eq_equiv};
 ghost use Rattle.std.specs.Str.{bytes_eq, is_utf8};
@@ -59,6 +59,7 @@ impl Name {
         ensures name { IsTrue (is_name self.now) }
         ensures some { 0 < length self.now }
         ensures short { length self.now ≤ 255 }
+        ensures text { IsUtf8 self.now }
     {
         self.text.as_slice()
     }

@@ -1,13 +1,11 @@
 //! Paths of documents and folders.
 
-ghost use Rattle.std.specs.Prelude.{◌≡◌, ◌+◌, ◌<◌, ◌≤◌, ◌++◌, ◌||◌, true, false, length, Some, None, Ok, IfOk, OnOk, OnErr, IsTrue, map, nat_eq};
+ghost use Rattle.std.specs.Prelude.{◌≡◌, ◌<◌, ◌≤◌, ◌++◌, ◌||◌, true, false, length, Ok, IfOk, OnOk, OnErr, IsTrue, map, nat_eq};
 ghost use Rattle.std.specs.List.{list_all, starts_with};
-ghost use Rattle.std.specs.Str.{bytes_eq};
-ghost use Rattle.rs_path.specs.Names.{is_name};
 ghost use Rattle.rs_path.specs.Paths.{is_path, folder_at, same_path, plain_text, text_of};
 ghost use Rattle.rs_path.specs.Below.{is_below, parent_at, parent_of, proper_fronts, ancestors_of};
 ghost use Rattle.rs_path.specs.Children.{child_at};
-ghost use Rattle.rs_path.specs.Targets.{target_text};
+ghost use Rattle.rs_path.specs.Targets.{is_target_byte, target_text};
 ghost use Rattle.rs_path.specs.Readings.{plain_reading, target_reading, Reads};
 
 use crate::name::Name;
@@ -89,6 +87,7 @@ impl Path {
     /// Whether the path is a folder's.
     pub fn is_folder(&self) -> bool
         ensures folder { result ≡ self.now.folder }
+        ensures named { result ≡ false → 0 < length self.now.names }
     {
         self.folder
     }
@@ -162,6 +161,7 @@ impl Path {
         ensures ok { OnOk result (out.new.items ≡ out.old.items ++ target_text self.now) }
         ensures err { OnErr result (out.new.items ≡ out.old.items) }
         ensures back { target_reading (target_text self.now) ≡ Ok self.now }
+        ensures bytes { IsTrue (list_all is_target_byte (target_text self.now)) }
     {
         let text = target_of(*self.names.allocator(), self.names.as_slice(), self.folder)?;
         out.extend_from_slice(text.as_bytes())?;
@@ -173,6 +173,7 @@ impl Path {
         ensures ok { OnOk result (out.new.items ≡ out.old.items ++ plain_text self.now) }
         ensures err { OnErr result (out.new.items ≡ out.old.items) }
         ensures back { plain_reading (plain_text self.now) ≡ Ok self.now }
+        ensures short { length (plain_text self.now) ≤ 8193 }
     {
         out.extend_from_slice(self.plain.as_slice())?;
         Ok(())

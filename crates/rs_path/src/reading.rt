@@ -1,6 +1,6 @@
 //! Texts read as paths.
 
-ghost use Rattle.std.specs.Prelude.{◌≡◌, ◌+◌, ◌*◌, ◌<◌, ◌≤◌, ◌∷◌, [], length, Some, None, Ok, IfOk, IfSome, IsTrue, ◌==◌, ◌&&◌, option_copied, position};
+ghost use Rattle.std.specs.Prelude.{◌≡◌, ◌+◌, ◌*◌, ◌<◌, ◌≤◌, ◌∷◌, [], length, Some, None, Ok, IfOk, IfSome, ◌==◌, ◌&&◌, option_copied, position};
 ghost use Rattle.std.specs.List.{slice_split, list_any};
 ghost use Rattle.percent_encoding.specs.Percent.{percent_decode};
 ghost use Rattle.rs_path.specs.Paths.{is_nil};

@@ -1,6 +1,6 @@
 //! Texts of entity tags.
 
-ghost use Rattle.std.specs.Prelude.{◌≡◌, ◌<◌, ◌≤◌, length, Some, None, IfOk, IsTrue, decimal, if◌then◌else◌};
+ghost use Rattle.std.specs.Prelude.{◌≡◌, ◌<◌, ◌≤◌, length, Some, None, IfOk, IsTrue, IsUtf8, decimal, if◌then◌else◌};
 ghost use Rattle.std.specs.Cmp.{partial_equiv_from_equiv};
 ghost use Rattle.std.proofs.lemmas.Cmp.{nat_list_eq_equiv};
 ghost use Rattle.std.specs.Str.{bytes_eq};
@@ -62,6 +62,7 @@ impl Tag {
         ensures tag { IsTrue (is_tag self.now) }
         ensures some { 0 < length self.now }
         ensures short { length self.now ≤ 255 }
+        ensures text { IsUtf8 self.now }
     {
         self.text.as_slice()
     }

@@ -1,8 +1,6 @@
 //! Paths written for the target of a request.
 
-ghost use Rattle.std.specs.Prelude.{◌≡◌, ◌++◌, true, map, All, IfOk, OnOk, string_bytes};
-ghost use Rattle.std.specs.List.{list_all};
-ghost use Rattle.rs_path.specs.Names.{is_name};
+ghost use Rattle.std.specs.Prelude.{◌≡◌, ◌++◌, map, IfOk, OnOk, string_bytes};
 ghost use Rattle.rs_path.specs.Paths.{text_of};
 ghost use Rattle.rs_path.specs.Targets.{escaped};
 

@@ -150,6 +150,11 @@ fn names_have_at_most_255_bytes(rt: HostRuntime) -> Result<(), Fail> {
         fault_of(rt.alloc(), over.as_slice()),
         Some((PathWhy::NameLong, 1))
     );
+    let last = deep(rt.alloc(), 31, over.as_slice())?;
+    assert_eq!(rt;
+        fault_of(rt.alloc(), last.as_slice()),
+        Some((PathWhy::NameLong, 63))
+    );
     let plain = long(rt.alloc(), b"a", 255, b"")?;
     assert!(rt; Path::read_plain(rt.alloc(), plain.as_slice()).is_ok());
     let plain = long(rt.alloc(), b"a", 256, b"")?;
