@@ -9,6 +9,9 @@ pub mod SettleLaws
 pub mod GrowthLaws
 pub mod TakenLaws
 pub mod SoundLaws
+pub mod ListingLaws
+pub mod ItemLaws
+pub mod LiveLaws
 pub mod ReadingLemmas
 pub mod Samples
 pub mod Examples

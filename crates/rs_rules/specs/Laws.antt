@@ -1,7 +1,11 @@
 -- What the laws of histories say.
-use Rattle.std.specs.Prelude.{◌≡◌, ◌≢◌, ℕ, ◌+◌, Bool, true, false, List, [], ◌∷◌, Option, Some, if◌then◌else◌}
+use Rattle.std.specs.Prelude.{◌≡◌, ◌≢◌, ℕ, ◌+◌, Bool, true, false, List, [], ◌∷◌, Option, Some, if◌then◌else◌, ◌&&◌, None}
+use Rattle.std.specs.List.{list_all}
+use Rattle.std.specs.Ordering.{is_lt}
+use Rattle.rs_path.specs.declared.child.Child.{Child}
 use Rattle.rs_path.specs.Paths.{Path}
 use Rattle.rs_path.specs.Below.{is_below}
+use Rattle.rs_path.specs.Children.{child_cmp, same_child}
 use Rattle.rs_scope.specs.declared.method.Method.{Method}
 use Rattle.rs_rules.specs.declared.log_entry.LogEntry.{LogEntry}
 use Rattle.rs_rules.specs.Histories.{History}
@@ -34,3 +38,13 @@ pub record HasReach (h : History) (writer : Option (List ℕ)) (method : Method)
   pub token : List ℕ
   pub shown : writer ≡ Some token
   pub reaches : scopes_reach (scopes_of h token) method path ≡ true
+
+-- each child is smaller than those after it
+abbrev pub is_sorted : List Child → Bool
+is_sorted [] = true
+is_sorted (child ∷ rest) = list_all (λ other. is_lt (child_cmp child other)) rest && is_sorted rest
+
+-- this is the child that leads on
+abbrev pub is_child : Child → Option Child → Bool
+is_child child None = false
+is_child child (Some other) = same_child child other

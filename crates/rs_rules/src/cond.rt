@@ -23,7 +23,7 @@ impl Cond {
     /// The condition of a field's value: `*`, or entity tags parted by commas (RFC 9110, section 8.8.3).
     ///
     /// Spaces and tabs may stand round commas, and items may be empty. A tag is `W/` or nothing, and a text in double
-    /// quotes. Where an item is no tag, the text is refused at the first byte of the first such item that is no blank;
+    /// quotes. Where an item is no tag, the text is refused at the first byte, after blanks, of the first such item;
     /// a list without a tag is refused at 0.
     pub fn read(alloc: Global, text: &[u8]) -> Result<Cond, CondFault>
         requires short { length text.now < 2 ^ 32 }

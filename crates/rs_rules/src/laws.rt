@@ -1,24 +1,30 @@
 //! Laws of histories. Each function does nothing: its contract is the law.
 
-ghost use Rattle.std.specs.Prelude.{◌≡◌, ◌≢◌, ℕ, ◌+◌, ◌*◌, ◌^◌, ◌<◌, ◌≤◌, max, Bool, true, false, List, [], ◌∷◌, length, fold, Option, Some, if◌then◌else◌};
-ghost use Rattle.rs_path.specs.Paths.{Path};
+ghost use Rattle.std.specs.Prelude.{◌≡◌, ◌≢◌, ℕ, ◌+◌, ◌*◌, ◌^◌, ◌<◌, ◌≤◌, max, Bool, true, false, List, [], ◌∷◌, length, fold, Option, Some, None, is_some, if◌then◌else◌};
+ghost use Rattle.std.specs.List.{list_any, list_all};
+ghost use Rattle.rs_path.specs.declared.child.Child.{Child};
+ghost use Rattle.rs_path.specs.Paths.{Path, is_path};
+ghost use Rattle.rs_path.specs.Children.{same_child, child_at, child_towards};
+ghost use Rattle.rs_path.specs.Items.{is_item, is_ascending};
 ghost use Rattle.rs_scope.specs.declared.method.Method.TheVariants.{Put as PutMethod, Delete as DeleteMethod};
 ghost use Rattle.rs_scope.specs.Reach.{is_free_read};
 ghost use Rattle.rs_record.specs.declared.records.Record.{Record};
 ghost use Rattle.rs_record.specs.declared.records.Record.TheVariants.{Put as PutRecord, Remove as RemoveRecord};
 ghost use Rattle.rs_rules.specs.declared.call.Call.{Call};
+ghost use Rattle.rs_rules.specs.declared.doc.Doc.{Doc};
 ghost use Rattle.rs_rules.specs.declared.log_entry.LogEntry.{LogEntry};
 ghost use Rattle.rs_rules.specs.declared.pass.Pass.{Pass};
+ghost use Rattle.rs_rules.specs.declared.placed.Placed.{Placed};
 ghost use Rattle.rs_rules.specs.declared.reply.Reply.{Reply};
 ghost use Rattle.rs_rules.specs.declared.request.Request.{Request};
 ghost use Rattle.rs_rules.specs.declared.request.Request.TheVariants.{Store};
 ghost use Rattle.rs_rules.specs.Limits.{max_len};
 ghost use Rattle.rs_rules.specs.Histories.{History, len, with_entry, with_entries, up_to, IsPoint, IsFront};
-ghost use Rattle.rs_rules.specs.Documents.{docs, docs_after, live_in};
+ghost use Rattle.rs_rules.specs.Documents.{others, docs, docs_after, doc_in, has_below, live_in};
 ghost use Rattle.rs_rules.specs.Versions.{writes_below, last_below, folder_version, ver};
 ghost use Rattle.rs_rules.specs.Tokens.{scopes_of, scopes_after};
-ghost use Rattle.rs_rules.specs.Contents.{contents, contents_after};
-ghost use Rattle.rs_rules.specs.Listings.{items_in};
+ghost use Rattle.rs_rules.specs.Contents.{Contents, contents, contents_after, paths_in};
+ghost use Rattle.rs_rules.specs.Listings.{children, items_in};
 ghost use Rattle.rs_rules.specs.Snapshots.{snapshot};
 ghost use Rattle.rs_rules.specs.Requests.{is_within_limit};
 ghost use Rattle.rs_rules.specs.Answers.{answer, taken, entry_of};
@@ -26,7 +32,7 @@ ghost use Rattle.rs_rules.specs.Lawful.{may_follow, AllFollow, IsLawful};
 ghost use Rattle.rs_rules.specs.Growth.{Grows, GrowsByOthers, is_store_failed};
 ghost use Rattle.rs_rules.specs.Settled.{settled, settle};
 ghost use Rattle.rs_rules.specs.Sound.{AreDistinct, are_documents, HasVersions};
-ghost use Rattle.rs_rules.specs.Laws.{IsVersionStep, SameBelow, HasReach, numbers_below};
+ghost use Rattle.rs_rules.specs.Laws.{IsVersionStep, SameBelow, HasReach, numbers_below, is_sorted, is_child};
 
 /// What one more entry does to the length, the documents, the versions, the scopes, and the items of a folder.
 pub fn step_laws()
@@ -89,6 +95,13 @@ pub fn lawful_laws()
     ensures room { (h : History) (body : List ℕ) → IsLawful h → length body ≤ 67108864 → live_in (docs h) + length body < 2 ^ 64 }
 {}
 
+/// The sum of the lengths of the bodies without the document at a path.
+pub fn live_laws()
+    ensures absent { (path : Path) (documents : List Placed) → doc_in path documents ≡ None → live_in (others path documents) ≡ live_in documents }
+    ensures present { (path : Path) (documents : List Placed) (doc : Doc) → AreDistinct documents → doc_in path documents ≡ Some doc
+        → live_in (others path documents) + length doc.body ≡ live_in documents }
+{}
+
 /// The record that a request adds stands rightly after the history, which has room for it. The writer of a document's
 /// record is the request's token, which is granted, with scopes that reach.
 pub fn taken_laws()
@@ -101,6 +114,20 @@ pub fn taken_laws()
         → taken h quota r ≡ Some (PutRecord path kind body writer) → HasReach h writer PutMethod path }
     ensures reach_remove { (h : History) (quota : ℕ) (r : Request) (path : Path) (writer : Option (List ℕ))
         → taken h quota r ≡ Some (RemoveRecord path writer) → HasReach h writer DeleteMethod path }
+{}
+
+/// The children of a folder ascend, so each stands there once. A document is listed just where it is there, a folder just
+/// where a document is below it. The items ascend by their keys, and a folder's item has neither kind nor length.
+pub fn listing_laws()
+    ensures members { (folder : Path) (paths : List Path) (child : Child) → list_any (same_child child) (children folder paths)
+        ≡ list_any (λ path. is_child child (child_towards folder path)) paths }
+    ensures sorted { (folder : Path) (paths : List Path) → is_sorted (children folder paths) ≡ true }
+    ensures documents { (folder : Path) (child : Child) (documents : List Placed) → child.folder ≡ false
+        → list_any (same_child child) (children folder (paths_in documents)) ≡ is_some (doc_in (child_at folder child) documents) }
+    ensures folders { (folder : Path) (child : Child) (documents : List Placed) → child.folder ≡ true → are_documents documents ≡ true
+        → list_any (same_child child) (children folder (paths_in documents)) ≡ has_below (child_at folder child) documents }
+    ensures ascending { (w : Contents) (folder : Path) → list_all is_path (paths_in w.docs) ≡ true → is_ascending (items_in w folder) ≡ true }
+    ensures plain { (w : Contents) (folder : Path) → list_all is_item (items_in w folder) ≡ true }
 {}
 
 /// No answer is StoreFailed. Where reading is free, the answer doesn't depend on the token that the request shows.

@@ -16,6 +16,8 @@ mod reading;
 mod reply;
 mod request;
 mod tag_list;
+#[cfg(test)]
+mod tests;
 mod tree;
 mod turn;
 
@@ -26,8 +28,8 @@ pub use desk::{Desk, DeskFault};
 pub use doc::Doc;
 pub use entity_tag::EntityTag;
 pub use laws::{
-    answer_laws, growth_laws, lawful_laws, never_returns_law, same_version_law, settle_law,
-    step_laws, taken_laws, version_bounds, version_law,
+    answer_laws, growth_laws, lawful_laws, listing_laws, live_laws, never_returns_law,
+    same_version_law, settle_law, step_laws, taken_laws, version_bounds, version_law,
 };
 pub use log_entry::LogEntry;
 pub use open_fault::OpenFault;
