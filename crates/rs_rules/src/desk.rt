@@ -1,0 +1,60 @@
+//! Desks.
+
+ghost use Rattle.std.specs.Prelude.{◌≡◌, ◌≢◌, ℕ, ◌≤◌, Bool, true};
+ghost use Rattle.rs_rules.specs.Histories.{History};
+ghost use Rattle.rs_rules.specs.Requests.{is_within_limit};
+
+use crate::request::Request;
+use crate::turn::Turn;
+
+/// Why a desk gives no reply.
+#[derive(Debug, Clone, Copy, PartialEq, Eq)]
+pub enum DeskFault {
+    /// Memory ran out.
+    NoMemory,
+}
+
+/// Who answers requests on the histories of its users, one at a time.
+///
+/// Others may make entries too, each under a number of its own. A clause on a desk holds for every history that it
+/// stands for.
+pub trait Desk {
+    /// The users, by number.
+    ghost serves: { Self → ℕ → Type 0 };
+
+    ghost use Rattle.rs_rules.specs.Histories.{History};
+
+    /// The desk stands for the history, of a user.
+    ghost stands: { Self → ℕ → History → Type 0 };
+
+    /// The quota of a user, in bytes. It stays the same.
+    ghost quota: { Self → ℕ → ℕ };
+
+    /// Under which number the desk makes entries in the history of a user. It stays the same.
+    ghost me: { Self → ℕ → ℕ };
+
+    /// Nobody else makes entries.
+    ghost alone: { Self → Bool };
+
+    /// How often a keeper has failed, up to the greatest number of 64 bits.
+    ghost faults: { Self → ℕ };
+
+    ghost use Rattle.rs_rules.specs.Growth.{Turned};
+
+    /// Answers a request of a user: the reply is the `answer` of the user's history as it was at some point of the
+    /// turn, which is then followed by the record that the request adds, if it adds one, and by nothing else.
+    ///
+    /// `StoreFailed` comes only where the count of faults rose. Then, and where memory ran out, the request has added
+    /// nothing. The histories of other users stay as they are.
+    fn turn(&mut self, user: u32, request: &Request) -> Result<Turn, DeskFault>
+        requires served { serves self.old user }
+        requires body { is_within_limit request.now ≡ true }
+        ensures turned { (h : History) → stands self.old user h → (now : History) × stands self.new user now
+            × Turned h now (quota self.old user) (me self.old user) (alone self.old) request.now result (faults self.old) (faults self.new) }
+        ensures others { (other : ℕ) (h : History) → other ≢ user → stands self.old other h → stands self.new other h }
+        ensures users { (other : ℕ) → serves self.old other → serves self.new other }
+        ensures same_quota { quota self.new ≡ quota self.old }
+        ensures same_number { me self.new ≡ me self.old }
+        ensures same_alone { alone self.new ≡ alone self.old }
+        ensures later { faults self.old ≤ faults self.new };
+}

@@ -1,0 +1,28 @@
+//! Why rows aren't opened.
+
+ghost use Rattle.std.specs.Prelude.{◌≡◌};
+
+use rs_path::NoMemory;
+
+/// The answer to rows that aren't opened as a user's history or a client's journal.
+#[derive(Debug, Clone, Copy, PartialEq, Eq)]
+pub enum OpenFault {
+    /// The row at the index spells nothing: the place of the fault in it.
+    BadRow { index: u64, place: u32 },
+    /// What the row at the index spells doesn't stand rightly after the rows before it.
+    Unlawful { index: u64 },
+    /// The rows could not be read.
+    KeeperFailed,
+    /// Memory ran out.
+    NoMemory,
+}
+
+impl From<NoMemory> for OpenFault {
+    ghost use Rattle.rs_rules.specs.declared.open_fault.OpenFault.TheVariants.{NoMemory};
+
+    ghost from_gives = { λ _ fault. fault ≡ NoMemory };
+
+    fn from(_e: NoMemory) -> OpenFault {
+        OpenFault::NoMemory
+    }
+}
