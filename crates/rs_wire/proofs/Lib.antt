@@ -1,0 +1,11 @@
+pub mod BodyLemmas
+pub mod ChunkLemmas
+pub mod HeadLemmas
+pub mod ItemLemmas
+pub mod LengthLemmas
+pub mod LinesLemmas
+pub mod MoveLemmas
+pub mod NameLemmas
+pub mod RequestLemmas
+pub mod StandsLemmas
+pub mod TextLemmas

@@ -1,0 +1,2 @@
+use Rattle.std.proofs.Common.{◌≡◌}
+use Rattle.rs_wire.proofs.reader.RequestReader.skip.Goals as goal
