@@ -1,18 +1,18 @@
 -- Facts on the parts of a body.
-use Rattle.std.proofs.Common.{◌≡◌, ℕ, zero, suc, ◌+◌, ◌-◌, ◌<◌, ◌≤◌, Bool, true, false, cond, eqb, List, [], ◌∷◌, ◌++◌, length, take, drop, min, Option, Some, None, Result, Ok, Err, refl, sym, ap, ◌∙◌, subst, arith, add-zero, inl, inr, ◌⊎◌}
+use Rattle.std.proofs.Common.{◌≡◌, ℕ, zero, suc, ◌+◌, ◌-◌, ◌<◌, ◌≤◌, Bool, true, false, cond, List, [], ◌∷◌, ◌++◌, length, take, drop, Option, Some, None, Result, Ok, Err, refl, sym, ap, ◌∙◌, subst, arith, inl, inr, ◌⊎◌}
 use Rattle.std.specs.Prelude.{nat_lt, bytes_eq}
-use Rattle.std.proofs.lemmas.List.{append_assoc, length-append, length-take, length-drop, take-append-le, drop-append-le, take-append-drop, drop-drop, drop-take, take-take, take_all, drop_all, append-nil}
-use Rattle.std.proofs.lemmas.Bool.{cond-true, cond-false, lt-ltb, le-ltb, ltb-true, ltb-false, cases_lt}
+use Rattle.std.proofs.lemmas.List.{append_assoc, length-append, length-drop, take-append-le, drop-append-le, take-append-drop, drop-drop, drop-take, take-take}
+use Rattle.std.proofs.lemmas.Bool.{cond-true, cond-false, lt-ltb, le-ltb, ltb-false, cases_lt}
 use Rattle.rs_wire.specs.declared.fault.WireFault.{WireFault}
 use Rattle.rs_wire.specs.declared.fault.WireWhy.{WireWhy}
-use Rattle.rs_wire.specs.declared.fault.WireWhy.TheVariants.{BadChunk, BodyLong}
+use Rattle.rs_wire.specs.declared.fault.WireWhy.TheVariants.{BadChunk}
 use Rattle.rs_wire.specs.declared.body.Part.{Part}
 use Rattle.rs_wire.specs.declared.body.Part.TheVariants.{Length, Line, Data, Trailer}
 use Rattle.rs_wire.specs.declared.search.Spot.TheVariants.{Fresh}
-use Rattle.rs_wire.specs.declared.limits.TheConstants.{BODY_LIMIT, CHUNK_LINE_LIMIT, TRAILER_LIMIT}
+use Rattle.rs_wire.specs.declared.limits.TheConstants.{CHUNK_LINE_LIMIT, TRAILER_LIMIT}
 use Rattle.rs_wire.specs.Lines.{first_line, empty_line}
 use Rattle.rs_wire.specs.ChunkTexts.{size_of}
-use Rattle.rs_wire.specs.Bodies.{Body, unended, ended, spoiled, Turn, waits, goes, ends, fails, fault_at, next_part, size_turn, line_turn, trailer_turn, has_line_end, turn, after_turn, parts, body_from}
+use Rattle.rs_wire.specs.Bodies.{unended, ended, spoiled, Turn, waits, goes, ends, fails, fault_at, next_part, size_turn, line_turn, trailer_turn, has_line_end, turn, after_turn, parts, body_from}
 use Rattle.rs_wire.proofs.LinesLemmas.{empty_line_is_found, first_line_is_first, window_more, length-window}
 
 -- how many bytes a turn takes: some of those there are where another comes, and no more than there are

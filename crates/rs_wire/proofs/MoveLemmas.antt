@@ -1,7 +1,7 @@
 -- What each answer of a reader of a body rests on.
-use Rattle.std.proofs.Common.{◌≡◌, ℕ, zero, suc, ◌+◌, ◌-◌, ◌<◌, ◌≤◌, Bool, true, false, cond, eqb, List, [], ◌∷◌, ◌++◌, length, take, drop, min, Option, Some, None, Result, Ok, Err, refl, sym, ap, ◌∙◌, subst, arith, add-zero}
+use Rattle.std.proofs.Common.{◌≡◌, ℕ, ◌+◌, ◌-◌, ◌<◌, ◌≤◌, Bool, true, false, cond, eqb, List, ◌++◌, length, take, drop, Option, Some, None, Ok, Err, refl, sym, ap, ◌∙◌, subst, arith}
 use Rattle.std.specs.Prelude.{nat_lt}
-use Rattle.std.proofs.lemmas.List.{length-append, length-take, length-drop, take-append-le, drop-append-le, take_all, drop_all, append-nil, append_assoc, take-take}
+use Rattle.std.proofs.lemmas.List.{length-append, length-take, take-append-le, drop-append-le, take_all, take-take}
 use Rattle.std.proofs.lemmas.Bool.{cond-true, cond-false, lt-ltb, le-ltb}
 use Rattle.rs_wire.specs.declared.fault.WireWhy.{WireWhy}
 use Rattle.rs_wire.specs.declared.fault.WireWhy.TheVariants.{BadChunk, BodyLong}
@@ -14,9 +14,9 @@ use Rattle.rs_wire.specs.declared.limits.TheConstants.{BODY_LIMIT, CHUNK_LINE_LI
 use Rattle.rs_wire.specs.Lines.{first_line, empty_line}
 use Rattle.rs_wire.specs.Sought.{IsSought}
 use Rattle.rs_wire.specs.ChunkTexts.{size_of}
-use Rattle.rs_wire.specs.Bodies.{part_after, Body, unended, ended, spoiled, Turn, waits, goes, ends, fails, fault_at, next_part, size_turn, line_turn, trailer_turn, has_line_end, turn, body_from}
+use Rattle.rs_wire.specs.Bodies.{part_after, unended, ended, spoiled, waits, goes, ends, fails, fault_at, next_part, size_turn, line_turn, trailer_turn, has_line_end, body_from}
 use Rattle.rs_wire.specs.BodyReaders.{IsPartAt, IsLineSought, body_of, Moves}
-use Rattle.rs_wire.proofs.LinesLemmas.{first_line_is_first, empty_line_is_found, length-window}
+use Rattle.rs_wire.proofs.LinesLemmas.{first_line_is_first, length-window}
 use Rattle.rs_wire.proofs.BodyLemmas.{body_goes, body_ends, body_fails, body_waits, length_taken, data_taken}
 
 -- what a search remembers changes nothing

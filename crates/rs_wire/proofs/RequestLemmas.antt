@@ -1,5 +1,5 @@
 -- `request_head` is httparse's grammar, for a text that begins with no line end.
-use Rattle.std.proofs.Common.{◌≡◌, ℕ, zero, suc, ◌+◌, ◌-◌, ◌*◌, ◌<◌, ◌≤◌, Bool, true, false, cond, ◌&&◌, List, [], ◌∷◌, ◌++◌, length, Option, Some, None, refl, sym, ap, ◌∙◌, subst, arith}
+use Rattle.std.proofs.Common.{◌≡◌, ℕ, suc, ◌+◌, ◌-◌, ◌*◌, ◌≤◌, Bool, true, false, cond, ◌&&◌, List, [], ◌∷◌, ◌++◌, length, Option, Some, None, refl, sym, ap, ◌∙◌, subst, arith}
 use Rattle.std.specs.Prelude.{bytes_eq, codes, nat_lt, nat_le, slice_index}
 use Rattle.std.specs.List.{list_all, flat_map}
 use Rattle.std.specs.Str.{is_utf8}
@@ -7,13 +7,13 @@ use Rattle.std.proofs.lemmas.List.{append-nil, append_assoc, length-append}
 use Rattle.std.proofs.lemmas.Bool.{and_parts, and_from, ltb-true, lt-ltb, leb-true, le-leb, cond-true, not_from_false, ne_eqb}
 use Rattle.std.proofs.lemmas.Slice.Eq.{bytes_eq-Decides}
 use Rattle.std.proofs.lemmas.Str.{IsUtf8-from_is_utf8, is_utf8-from_IsUtf8}
-use Rattle.httparse.specs.Grammar.{LineEnd, crlf, lf, print_end, print_blank, print_version, is_token, is_uri_byte, is_token_byte, Field, print_field, print_section, RequestHead, IsRequestHead, print_request, ReadsRequest}
+use Rattle.httparse.specs.Grammar.{LineEnd, crlf, lf, print_end, print_blank, print_version, is_token, is_uri_byte, is_token_byte, print_field, print_section, RequestHead, IsRequestHead, print_request, ReadsRequest}
 use Rattle.httparse.proofs.GrammarLemmas.{print_request-append, cons-append}
 use Rattle.rs_wire.specs.Lines.{is_break, past_breaks}
 use Rattle.rs_wire.specs.Items.{pieces}
-use Rattle.rs_wire.specs.Texts.{cut, without_cr, fields_in, is_field}
+use Rattle.rs_wire.specs.Texts.{cut, is_field}
 use Rattle.rs_wire.specs.RequestTexts.{request_in, request_lines, is_request, request_head}
-use Rattle.rs_wire.proofs.TextLemmas.{AllPass-from_test, test_from_AllPass, IsToken-from_test, test_from_IsToken, IsField-from_tests, tests_from_IsField, lacks, lacks_by, lacks_append, cut_at, cr, line_piece, line_alone, section_found, section_room, no_token_10, no_token_13, no_token_32}
+use Rattle.rs_wire.proofs.TextLemmas.{AllPass-from_test, test_from_AllPass, IsToken-from_test, test_from_IsToken, IsField-from_tests, tests_from_IsField, lacks, lacks_by, lacks_append, cut_at, line_piece, line_alone, section_found, section_room, no_token_10, no_token_13, no_token_32}
 
 -- ---- what it gives is a head
 

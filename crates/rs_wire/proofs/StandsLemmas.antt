@@ -1,5 +1,5 @@
 -- What a reader of requests stands for, from one turn to the next.
-use Rattle.std.proofs.Common.{◌≡◌, ℕ, zero, suc, ◌+◌, ◌-◌, ◌^◌, ◌<◌, ◌≤◌, Bool, true, false, not, ◌&&◌, cond, List, [], ◌∷◌, ◌++◌, length, take, drop, min, Option, Some, None, Result, Ok, Err, refl, sym, ap, ◌∙◌, subst, arith}
+use Rattle.std.proofs.Common.{◌≡◌, ℕ, ◌+◌, ◌-◌, ◌^◌, ◌<◌, ◌≤◌, true, false, not, ◌&&◌, cond, List, [], ◌++◌, length, take, drop, min, Option, Some, None, Result, Ok, Err, refl, sym, ap, ◌∙◌, subst, arith}
 use Rattle.std.specs.Prelude.{IfOk}
 use Rattle.std.specs.List.{list_all}
 use Rattle.std.proofs.lemmas.List.{append-nil, append_assoc, length-append, length-drop, drop-append-le, drop-drop, take-append-le}
@@ -32,9 +32,9 @@ use Rattle.rs_wire.specs.declared.limits.TheConstants.{HEAD_LIMIT, TRAILER_LIMIT
 use Rattle.rs_wire.specs.Lines.{is_break, first_line, spot_after}
 use Rattle.rs_wire.specs.Sought.{IsSought}
 use Rattle.rs_wire.specs.RequestHeads.{head_of, IsHeadWithin}
-use Rattle.rs_wire.specs.Bodies.{Body, unended, ended, spoiled, fault_at, first_part, body_from}
-use Rattle.rs_wire.specs.BodyReaders.{IsPartAt, IsLineSought, IsSameBody, body_of, Moves, IsMove}
-use Rattle.rs_wire.specs.Readings.{Reading, unread, refused, begun, reading_by, reading, Fed, fed_with, Answer, more, interim, message, fault, with_body, body_answer, reading_answer, answer_by, answer, step_of, fed_after, finish_by, finish_of}
+use Rattle.rs_wire.specs.Bodies.{Body, fault_at, first_part, body_from}
+use Rattle.rs_wire.specs.BodyReaders.{IsPartAt, IsSameBody, body_of, Moves, IsMove}
+use Rattle.rs_wire.specs.Readings.{Reading, unread, refused, begun, reading_by, reading, Fed, fed_with, Answer, more, interim, message, fault, body_answer, reading_answer, answer_by, answer, step_of, fed_after, finish_by, finish_of}
 use Rattle.rs_wire.specs.Readers.{StandsAtHead, StandsInBody, StandsAt, IsFed, Stands, Turns}
 use Rattle.rs_wire.proofs.HeadLemmas.{head_stays, head_has_text}
 use Rattle.rs_wire.proofs.LinesLemmas.{window_more}

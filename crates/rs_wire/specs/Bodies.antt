@@ -1,5 +1,5 @@
 -- The body of a request, by its framing (RFC 9112, sections 6 and 7.1).
-use Rattle.std.specs.Prelude.{◌≡◌, Bool, ℕ, zero, suc, ◌+◌, ◌==◌, nat_lt, if◌then◌else◌, List, [], ◌∷◌, ◌++◌, length, take, drop, Option, Some, None, Result, Ok, Err, bytes_eq}
+use Rattle.std.specs.Prelude.{Bool, ℕ, zero, suc, ◌+◌, ◌==◌, nat_lt, if◌then◌else◌, List, [], ◌∷◌, ◌++◌, length, take, drop, Option, Some, None, Result, Ok, Err, bytes_eq}
 use Rattle.rs_wire.specs.declared.fault.WireFault.{WireFault}
 use Rattle.rs_wire.specs.declared.fault.WireWhy.{WireWhy}
 use Rattle.rs_wire.specs.declared.fault.WireWhy.TheVariants.{BadChunk, BodyLong}

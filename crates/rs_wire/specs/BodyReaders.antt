@@ -1,5 +1,5 @@
 -- What a reader of a body does with the bytes that it is given.
-use Rattle.std.specs.Prelude.{◌≡◌, ◌≤◌, ◌<◌, ℕ, ◌+◌, ◌==◌, Bool, List, ◌++◌, length, take, drop, None, ⊤}
+use Rattle.std.specs.Prelude.{◌≡◌, ◌≤◌, ◌<◌, ℕ, ◌+◌, List, ◌++◌, length, take, drop, None, ⊤}
 use Rattle.rs_wire.specs.declared.body.Part.{Part}
 use Rattle.rs_wire.specs.declared.body.Part.TheVariants.{Length, Line, Data, Trailer}
 use Rattle.rs_wire.specs.declared.body.Move.{Move}

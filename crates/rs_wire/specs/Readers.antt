@@ -1,7 +1,6 @@
 -- What a reader of requests stands for.
-use Rattle.std.specs.Prelude.{◌≡◌, ◌≤◌, ◌<◌, ℕ, ◌+◌, ◌-◌, ◌^◌, Bool, false, List, ◌++◌, length, take, drop, Option, Some, None, Result, Ok, Err}
+use Rattle.std.specs.Prelude.{◌≡◌, ◌≤◌, ◌<◌, ℕ, ◌+◌, ◌-◌, ◌^◌, false, List, ◌++◌, length, take, drop, Option, Some, None, Result, Ok, Err}
 use Rattle.std.specs.List.{list_all}
-use Rattle.rs_wire.specs.declared.fault.WireFault.{WireFault}
 use Rattle.rs_wire.specs.declared.fault.NextFault.{NextFault}
 use Rattle.rs_wire.specs.declared.fault.NextFault.TheVariants.{Wire, NoMemory}
 use Rattle.rs_wire.specs.declared.message.Step.{Step}
@@ -15,7 +14,7 @@ use Rattle.rs_wire.specs.declared.limits.TheConstants.{HEAD_LIMIT}
 use Rattle.rs_wire.specs.Lines.{is_break}
 use Rattle.rs_wire.specs.Sought.{IsSought}
 use Rattle.rs_wire.specs.BodyReaders.{IsPartAt, body_of}
-use Rattle.rs_wire.specs.Readings.{begun, reading, Fed, Answer, answer, step_of, fed_after}
+use Rattle.rs_wire.specs.Readings.{begun, reading, Fed, answer, step_of, fed_after}
 
 -- the reader is between messages or inside a head
 pub record StandsAtHead (search : Search) (taken : ℕ) (left : List ℕ) (fed : Fed) : Type 0 where

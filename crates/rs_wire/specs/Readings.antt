@@ -1,5 +1,5 @@
 -- What a stream of requests holds after one message and before the next, as a function of its bytes.
-use Rattle.std.specs.Prelude.{◌≡◌, ℕ, ◌+◌, ◌-◌, ◌++◌, Bool, true, false, not, ◌&&◌, if◌then◌else◌, List, [], length, drop, Option, Some, None, Result, Ok, Err}
+use Rattle.std.specs.Prelude.{ℕ, ◌+◌, ◌-◌, ◌++◌, Bool, true, false, not, ◌&&◌, if◌then◌else◌, List, [], length, drop, Option, Some, None, Result, Ok, Err}
 use Rattle.std.specs.List.{list_all}
 use Rattle.rs_wire.specs.declared.fault.WireFault.{WireFault}
 use Rattle.rs_wire.specs.declared.fault.WireWhy.{WireWhy}

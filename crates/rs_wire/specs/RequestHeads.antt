@@ -1,5 +1,5 @@
 -- What the head of a request says.
-use Rattle.std.specs.Prelude.{◌≡◌, ℕ, ◌<◌, Bool, if◌then◌else◌, nat_lt, ◌==◌, List, [], length, map, take, Option, Some, None, Result, Ok, Err, ◌≤◌, ⊤}
+use Rattle.std.specs.Prelude.{◌≡◌, ℕ, ◌<◌, if◌then◌else◌, nat_lt, ◌==◌, List, [], length, map, take, Option, Some, None, Result, Ok, Err, ◌≤◌, ⊤}
 use Rattle.std.specs.List.{list_any}
 use Rattle.std.specs.Option.{option_map_or}
 use Rattle.httparse.specs.Grammar.{RequestHead, field_value, Field as Line}
@@ -10,7 +10,6 @@ use Rattle.rs_wire.specs.declared.field.Field.{Field}
 use Rattle.rs_wire.specs.declared.fault.WireWhy.{WireWhy}
 use Rattle.rs_wire.specs.declared.fault.WireWhy.TheVariants.{BadHead, HeadLong, TargetLong}
 use Rattle.rs_wire.specs.declared.framing.Framing.{Framing}
-use Rattle.rs_wire.specs.declared.message.RequestMessage.{RequestMessage}
 use Rattle.rs_wire.specs.declared.head.Begun.{Begun}
 use Rattle.rs_wire.specs.declared.limits.TheConstants.{FIELD_LIMIT, HEAD_LIMIT}
 use Rattle.rs_wire.specs.declared.search.Spot.TheVariants.{Before}

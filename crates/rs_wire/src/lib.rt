@@ -14,6 +14,8 @@ mod message;
 mod name;
 mod reader;
 mod search;
+#[cfg(test)]
+mod tests;
 
 pub use fault::{NextFault, ReplyFault, WireFault, WireWhy};
 pub use field::{Field, Fields};

@@ -1,4 +1,4 @@
-use Rattle.std.proofs.Common.{◌≡◌, ◌+◌, ◌∷◌, ◌++◌, ◌<◌, length, take, drop, get_or, Some, None, sym, ap, ◌∙◌, arith}
+use Rattle.std.proofs.Common.{◌+◌, ◌++◌, ◌<◌, length, take, drop, get_or, Some, sym, ap, ◌∙◌, arith}
 use Rattle.std.proofs.lemmas.List.{take_more, take-append-drop, drop_more, length-take-le}
 use Rattle.rs_wire.specs.Lines.{first_line}
 use Rattle.rs_wire.proofs.LinesLemmas.{first_line_found, first_line_push}

@@ -1,11 +1,11 @@
-use Rattle.std.proofs.Common.{◌≡◌, ℕ, ◌++◌, length, drop, [], List, Result, Ok, Err, Some, sym, ap, ◌∙◌, subst, arith}
+use Rattle.std.proofs.Common.{◌≡◌, ℕ, ◌++◌, length, drop, [], List, Result, Ok, Some, sym, ap, ◌∙◌, subst, arith}
 use Rattle.std.proofs.lemmas.List.{drop_all, append-nil}
-use Rattle.httparse.specs.Grammar.{ChunkLine, print_chunk_line, ReadsChunkLine, chunk_size}
+use Rattle.httparse.specs.Grammar.{ChunkLine, print_chunk_line, ReadsChunkLine}
 use Rattle.httparse.specs.Outcome.{IfComplete, OnPartial}
 use Rattle.httparse.specs.Spans.{IsChunkLineAt}
 use Rattle.httparse.specs.declared.InvalidChunkSize.{InvalidChunkSize}
 use Rattle.httparse.specs.declared.Status.{Status}
-use Rattle.httparse.specs.declared.Status.TheVariants.{Complete, Partial}
+use Rattle.httparse.specs.declared.Status.TheVariants.{Complete}
 use Rattle.httparse.proofs.ChunkLemmas.{chunk_line_unique}
 use Rattle.rs_wire.proofs.ChunkLemmas.{size_none, size_some}
 use Rattle.rs_wire.proofs.chunk.size_of.Goals as goal

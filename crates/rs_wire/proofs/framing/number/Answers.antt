@@ -1,6 +1,4 @@
-use Rattle.std.proofs.Common.{arith, take, ap, ◌∙◌}
-use Rattle.std.specs.Str.Parse.{digits_value}
-use Rattle.std.proofs.lemmas.List.{take_all}
+use Rattle.std.proofs.Common.{arith}
 use Rattle.rs_wire.proofs.LengthLemmas.{length_step}
 use Rattle.rs_wire.proofs.framing.number.Goals as goal
 

@@ -1,5 +1,4 @@
-use Rattle.std.proofs.Common.{◌≡◌, length, Err, Ok, sym, ap, ◌∙◌}
-use Rattle.httparse.specs.Spans.{span_bytes}
+use Rattle.std.proofs.Common.{length, Err, Ok, sym, ap, ◌∙◌}
 use Rattle.rs_wire.specs.Framing.{head_framing}
 use Rattle.rs_wire.proofs.HeadLemmas.{judged_many, judged_parts}
 use Rattle.rs_wire.proofs.head.judge.Goals as goal

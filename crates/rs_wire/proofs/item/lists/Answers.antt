@@ -1,4 +1,4 @@
-use Rattle.std.proofs.Common.{◌≡◌, ◌+◌, ◌||◌, true, false, refl, ap, sym, ◌∙◌, take, drop, length}
+use Rattle.std.proofs.Common.{◌≡◌, ◌+◌, ◌||◌, false, ap, sym, ◌∙◌, take, drop}
 use Rattle.rs_wire.specs.Items.{lists, is_item}
 use Rattle.rs_wire.proofs.ItemLemmas.{lists_at, lists_whole}
 use Rattle.rs_wire.proofs.item.lists.Goals as goal

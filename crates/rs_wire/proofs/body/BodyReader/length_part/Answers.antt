@@ -1,4 +1,4 @@
-use Rattle.std.proofs.Common.{◌≡◌, ℕ, ◌<◌, ◌≤◌, ◌++◌, List, length, take, min, refl, sym, ap, ◌∙◌, arith}
+use Rattle.std.proofs.Common.{◌≡◌, ℕ, ◌<◌, ◌≤◌, length, min, refl, sym, ap, ◌∙◌, arith}
 use Rattle.rs_wire.specs.declared.body.Part.TheVariants.{Length}
 use Rattle.rs_wire.proofs.MoveLemmas.{length_ends, length_waits}
 use Rattle.rs_wire.proofs.body.BodyReader.length_part.Goals as goal

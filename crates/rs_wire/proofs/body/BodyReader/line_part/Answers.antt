@@ -1,13 +1,10 @@
-use Rattle.std.proofs.Common.{◌≡◌, ℕ, ◌++◌, ◌≤◌, List, length, take, drop, Option, Some, None, Ok, Err, refl, sym, ap, ◌∙◌, subst, arith}
-use Rattle.std.proofs.lemmas.List.{length-take-le}
-use Rattle.rs_wire.specs.declared.body.Part.{Part}
-use Rattle.rs_wire.specs.declared.body.Part.TheVariants.{Line}
+use Rattle.std.proofs.Common.{◌≡◌, ℕ, ◌≤◌, List, length, take, drop, Option, None, refl, sym, ap, ◌∙◌, subst}
 use Rattle.rs_wire.specs.declared.limits.TheConstants.{CHUNK_LINE_LIMIT}
 use Rattle.rs_wire.specs.Lines.{first_line}
-use Rattle.rs_wire.specs.BodyReaders.{IsLineSought, IsPartAt}
+use Rattle.rs_wire.specs.BodyReaders.{IsLineSought}
 use Rattle.rs_wire.specs.Bodies.{next_part}
 use Rattle.rs_wire.specs.ChunkTexts.{size_of}
-use Rattle.rs_wire.proofs.MoveLemmas.{line_within, line_sought, line_goes, line_fails, line_long, line_waits, next_fits}
+use Rattle.rs_wire.proofs.MoveLemmas.{line_sought, line_goes, line_fails, line_long, line_waits, next_fits}
 use Rattle.rs_wire.proofs.body.BodyReader.line_part.Goals as goal
 
 -- the search's answer is about the bytes of the window

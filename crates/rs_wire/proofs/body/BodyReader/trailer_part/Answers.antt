@@ -1,4 +1,4 @@
-use Rattle.std.proofs.Common.{◌≡◌, ℕ, List, take, Option, Some, None, refl, sym, ap, ◌∙◌, subst}
+use Rattle.std.proofs.Common.{◌≡◌, ℕ, List, take, Option, refl, sym, ap, ◌∙◌, subst}
 use Rattle.rs_wire.specs.declared.search.Search.{Search}
 use Rattle.rs_wire.specs.declared.search.Spot.{Spot}
 use Rattle.rs_wire.specs.declared.search.Spot.TheVariants.{Fresh}

@@ -1,15 +1,15 @@
-use Rattle.std.proofs.Common.{◌≡◌, ℕ, ◌+◌, ◌^◌, ◌<◌, ◌≤◌, Bool, true, false, not, ◌&&◌, List, length, drop, Option, Some, None, Result, Ok, Err, refl, ◌∙◌, sym, ap, subst, arith}
+use Rattle.std.proofs.Common.{◌≡◌, ◌+◌, true, false, not, ◌&&◌, drop, Some, Ok, refl, ◌∙◌, sym, ap, subst}
 use Rattle.std.proofs.lemmas.Result.{IfOk-at_ok, IfErr-at_err}
 use Rattle.rs_wire.specs.declared.body.Move.{Move}
 use Rattle.rs_wire.specs.declared.message.Step.TheVariants.{Message}
 use Rattle.rs_wire.specs.declared.reader.Opened.{Opened}
 use Rattle.rs_wire.specs.declared.reader.Stage.{Stage}
-use Rattle.rs_wire.specs.declared.reader.Stage.TheVariants.{Head, Body}
+use Rattle.rs_wire.specs.declared.reader.Stage.TheVariants.{Body}
 use Rattle.rs_wire.specs.declared.reader.RequestReader.{RequestReader}
 use Rattle.rs_wire.specs.BodyReaders.{IsMove, IsSameBody}
-use Rattle.rs_wire.specs.Readings.{Fed, answer, more, interim, message, fault, with_body, fed_after, step_of}
+use Rattle.rs_wire.specs.Readings.{more, interim, message, with_body, fed_after}
 use Rattle.rs_wire.specs.Bodies.{unended, ended, spoiled}
-use Rattle.rs_wire.specs.Readers.{Stands, IsFed, Turns}
+use Rattle.rs_wire.specs.Readers.{Stands, IsFed}
 use Rattle.rs_wire.proofs.StandsLemmas.{turned, interim_due, body_due, body_told, body_moved, body_same, body_ended, stopped, turns_fault, advanced, skipped}
 use Rattle.rs_wire.proofs.reader.RequestReader.body_turn.Goals as goal
 

@@ -1,9 +1,7 @@
-use Rattle.std.proofs.Common.{◌≡◌, ◌+◌, ◌^◌, ◌-◌, min, true, false, List, ℕ, length, Ok, Err, sym, ap, ◌∙◌, subst}
+use Rattle.std.proofs.Common.{◌+◌, ◌^◌, ◌-◌, min, length, sym, ap, ◌∙◌, subst}
 use Rattle.std.specs.List.{list_all}
-use Rattle.rs_wire.specs.declared.fault.WireWhy.TheVariants.{Truncated}
 use Rattle.rs_wire.specs.declared.reader.Stage.{Stage}
 use Rattle.rs_wire.specs.Lines.{is_break}
-use Rattle.rs_wire.specs.Bodies.{fault_at}
 use Rattle.rs_wire.specs.Readers.{Stands, IsFed}
 use Rattle.rs_wire.proofs.StandsLemmas.{finish_stopped, finish_whole, finish_cut, end_place}
 use Rattle.rs_wire.proofs.reader.RequestReader.finish.Goals as goal

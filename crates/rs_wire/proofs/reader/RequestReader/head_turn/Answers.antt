@@ -1,19 +1,14 @@
-use Rattle.std.proofs.Common.{◌≡◌, false, ℕ, ◌+◌, ◌^◌, ◌<◌, ◌≤◌, List, length, drop, Option, Some, None, Result, Ok, Err, refl, ◌∙◌, sym, ap, subst, arith}
+use Rattle.std.proofs.Common.{◌≡◌, false, ℕ, Option, Some, Result, Ok, refl, ◌∙◌, sym, ap, subst}
 use Rattle.std.proofs.lemmas.Result.{IfOk-at_ok}
-use Rattle.rs_path.specs.declared.no_memory.NoMemory.{NoMemory}
 use Rattle.rs_wire.specs.declared.fault.WireWhy.{WireWhy}
-use Rattle.rs_wire.specs.declared.fault.NextFault.{NextFault}
-use Rattle.rs_wire.specs.declared.fault.NextFault.TheVariants.{Wire}
 use Rattle.rs_wire.specs.declared.head.Begun.{Begun}
-use Rattle.rs_wire.specs.declared.message.Step.{Step}
 use Rattle.rs_wire.specs.declared.reader.Opened.{Opened}
-use Rattle.rs_wire.specs.declared.reader.Stage.{Stage}
 use Rattle.rs_wire.specs.declared.reader.Stage.TheVariants.{Head, Body}
 use Rattle.rs_wire.specs.declared.reader.RequestReader.{RequestReader}
 use Rattle.rs_wire.specs.RequestHeads.{head_of, IsHeadWithin}
 use Rattle.rs_wire.specs.Bodies.{fault_at}
-use Rattle.rs_wire.specs.Readings.{Fed, answer, more, fault}
-use Rattle.rs_wire.specs.Readers.{Stands, IsFed, Turns}
+use Rattle.rs_wire.specs.Readings.{more}
+use Rattle.rs_wire.specs.Readers.{Stands}
 use Rattle.rs_wire.proofs.StandsLemmas.{turned, head_waits, head_fails, head_sought, head_opens, stopped, turns_fault, finds, skipped}
 use Rattle.rs_wire.proofs.reader.RequestReader.head_turn.Goals as goal
 

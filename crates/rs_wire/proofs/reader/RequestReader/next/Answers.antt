@@ -1,2 +1,0 @@
-use Rattle.std.proofs.Common.{◌≡◌}
-use Rattle.rs_wire.proofs.reader.RequestReader.next.Goals as goal

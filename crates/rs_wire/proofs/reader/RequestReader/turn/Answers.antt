@@ -1,9 +1,8 @@
-use Rattle.std.proofs.Common.{◌≡◌, List, Some, refl, ◌∙◌, sym, ap, subst, arith}
+use Rattle.std.proofs.Common.{Some, ◌∙◌, sym, subst}
 use Rattle.rs_wire.specs.declared.reader.Stage.{Stage}
 use Rattle.rs_wire.specs.declared.reader.Stage.TheVariants.{Stopped}
 use Rattle.rs_wire.specs.declared.reader.RequestReader.{RequestReader}
-use Rattle.rs_wire.specs.Readings.{Fed, answer}
-use Rattle.rs_wire.specs.Readers.{Stands, IsFed, Turns}
+use Rattle.rs_wire.specs.Readers.{Stands, IsFed}
 use Rattle.rs_wire.proofs.StandsLemmas.{stopped_due, stopped, turns_fault}
 use Rattle.rs_wire.proofs.reader.RequestReader.turn.Goals as goal
 

@@ -1,4 +1,4 @@
-use Rattle.std.proofs.Common.{◌≡◌, ◌≤◌, Some, take}
+use Rattle.std.proofs.Common.{◌≡◌, Some, take}
 use Rattle.rs_wire.specs.declared.search.Spot.{Spot}
 use Rattle.rs_wire.specs.Lines.{spot_after}
 use Rattle.rs_wire.specs.Sought.{IsSought}
