@@ -26,7 +26,7 @@ pub judged_none : (place : ℕ) (text : List ℕ) → request_head text ≡ None
 unfolding judged
 judged_none place text none = ap (λ o. option_map_or (judged_head place) o (Err BadHead)) none
 
-judged_some : (place : ℕ) (text : List ℕ) (h : RequestHead) → request_head text ≡ Some h → judged place text ≡ judged_head place h
+pub judged_some : (place : ℕ) (text : List ℕ) (h : RequestHead) → request_head text ≡ Some h → judged place text ≡ judged_head place h
 unfolding judged
 judged_some place text h is = ap (λ o. option_map_or (judged_head place) o (Err BadHead)) is
 

@@ -1,6 +1,7 @@
 pub mod Bodies
 pub mod BodyReaders
 pub mod ChunkTexts
+pub mod Division
 pub mod Framing
 pub mod Items
 pub mod Lines
@@ -10,4 +11,6 @@ pub mod Readings
 pub mod RequestHeads
 pub mod RequestTexts
 pub mod Sought
+pub mod Spelling
 pub mod Texts
+pub mod Writing
