@@ -1,2 +1,13 @@
 pub mod Names
 pub mod Kinds
+pub mod Tags
+pub mod Paths
+pub mod PathOrder
+pub mod Below
+pub mod Keys
+pub mod Children
+pub mod ChildOrder
+pub mod Targets
+pub mod Readings
+pub mod Items
+pub mod SameEntries

@@ -1,6 +1,6 @@
 //! Content types of documents.
 
-ghost use Rattle.std.specs.Prelude.{◌≡◌, ◌<◌, ◌≤◌, length, Some, None, IfOk, IsTrue, if◌then◌else◌};
+ghost use Rattle.std.specs.Prelude.{◌≡◌, ◌<◌, ◌≤◌, length, Some, None, IfOk, IsTrue, IsUtf8, if◌then◌else◌};
 ghost use Rattle.std.specs.Cmp.{partial_equiv_from_equiv};
 ghost use Rattle.std.proofs.lemmas.Cmp.{nat_list_eq_equiv};
 ghost use Rattle.std.specs.Str.{bytes_eq};
@@ -51,6 +51,7 @@ impl Kind {
         ensures kind { IsTrue (is_kind self.now) }
         ensures some { 0 < length self.now }
         ensures short { length self.now ≤ 255 }
+        ensures text { IsUtf8 self.now }
     {
         self.text.as_slice()
     }

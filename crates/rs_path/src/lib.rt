@@ -2,11 +2,31 @@
 #![tactic(auto)]
 
 mod bytes;
+mod child;
+mod entry;
+mod items;
+mod key;
 mod kind;
+mod laws;
 mod name;
 mod no_memory;
+mod path;
+mod path_fault;
+mod reading;
+mod spelling;
+mod tag;
+mod target;
+#[cfg(test)]
+mod tests;
 
 pub use bytes::Bytes;
+pub use child::Child;
+pub use entry::Entry;
+pub use items::Items;
 pub use kind::Kind;
+pub use laws::{ancestor_laws, below_laws, child_laws, child_order_laws, order_laws, text_laws};
 pub use name::Name;
 pub use no_memory::NoMemory;
+pub use path::Path;
+pub use path_fault::{PathFault, PathWhy};
+pub use tag::Tag;

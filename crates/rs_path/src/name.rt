@@ -1,6 +1,6 @@
 //! Names of documents and folders.
 
-ghost use Rattle.std.specs.Prelude.{◌≡◌, ◌<◌, ◌≤◌, length, Some, None, IfOk, IsTrue, if◌then◌else◌};
+ghost use Rattle.std.specs.Prelude.{◌≡◌, ◌<◌, ◌≤◌, length, Some, None, IfOk, IsTrue, IsUtf8, if◌then◌else◌};
 ghost use Rattle.std.specs.Cmp.{partial_equiv_from_equiv};
 ghost use Rattle.std.proofs.lemmas.Cmp.{nat_list_eq_equiv};
 ghost use Rattle.std.specs.Str.{bytes_eq, is_utf8};
@@ -45,12 +45,21 @@ impl Name {
         }))
     }
 
+    // The name of bytes that are one.
+    pub(crate) fn of(text: Vec<u8>) -> Name
+        requires { IsTrue (is_name text.items) }
+        ensures bytes { result ≡ text.items }
+    {
+        Name { text }
+    }
+
     /// The name's bytes.
     pub fn as_slice(&self) -> &[u8]
         ensures bytes { result.now ≡ self.now }
         ensures name { IsTrue (is_name self.now) }
         ensures some { 0 < length self.now }
         ensures short { length self.now ≤ 255 }
+        ensures text { IsUtf8 self.now }
     {
         self.text.as_slice()
     }
@@ -58,6 +67,7 @@ impl Name {
     /// An equal name, from the same allocator.
     pub fn copy(&self) -> Result<Name, NoMemory>
         ensures same { IfOk result (λ copied. copied ≡ self.now) }
+        ensures name { IsTrue (is_name self.now) }
     {
         Ok(Name {
             text: self.text.clone()?,
@@ -89,7 +99,7 @@ fn is_name(text: &[u8]) -> bool
         && is_utf8(text)
 }
 
-fn is_utf8(text: &[u8]) -> bool
+pub(crate) fn is_utf8(text: &[u8]) -> bool
     ensures { result ≡ is_utf8 text.now }
 {
     std::str::from_utf8(text).is_ok()
@@ -101,7 +111,7 @@ fn has_no_separator(text: &[u8]) -> bool
     text.iter().all(|byte| *byte != b'/' && *byte != 0)
 }
 
-fn is_dots(text: &[u8]) -> bool
+pub(crate) fn is_dots(text: &[u8]) -> bool
     ensures { result ≡ is_dots text.now }
 {
     matches!(text, b"." | b"..")

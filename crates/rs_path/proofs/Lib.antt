@@ -1,0 +1,13 @@
+pub mod NameLemmas
+pub mod AsciiLemmas
+pub mod ReadingLemmas
+pub mod EscapeLemmas
+pub mod RoundTrips
+pub mod TextLemmas
+pub mod PathLemmas
+pub mod OrderLemmas
+pub mod ItemLemmas
+pub mod KeyLemmas
+pub mod BelowLemmas
+pub mod ChildLemmas
+pub mod PrefixLemmas
