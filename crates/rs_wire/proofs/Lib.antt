@@ -1,0 +1,13 @@
+pub mod BodyLemmas
+pub mod ChunkLemmas
+pub mod DivisionLemmas
+pub mod HeadLemmas
+pub mod ItemLemmas
+pub mod LengthLemmas
+pub mod LinesLemmas
+pub mod MoveLemmas
+pub mod NameLemmas
+pub mod RequestLemmas
+pub mod SpellingLemmas
+pub mod StandsLemmas
+pub mod TextLemmas

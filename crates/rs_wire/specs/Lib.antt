@@ -1,0 +1,16 @@
+pub mod Bodies
+pub mod BodyReaders
+pub mod ChunkTexts
+pub mod Division
+pub mod Framing
+pub mod Items
+pub mod Lines
+pub mod Names
+pub mod Readers
+pub mod Readings
+pub mod RequestHeads
+pub mod RequestTexts
+pub mod Sought
+pub mod Spelling
+pub mod Texts
+pub mod Writing

@@ -1,0 +1,114 @@
+-- The bytes of a request and of a reply as they are written (RFC 9112, sections 3 to 6).
+use Rattle.std.specs.Prelude.{◌≡◌, ◌≤◌, ◌<◌, ◌==◌, ◌||◌, Bool, true, false, if◌then◌else◌, is_ok, Result, Err, ⊤, ℕ, ◌+◌, ◌/◌, ◌%◌, List, [], ◌∷◌, ◌++◌, length, map, Option, Some, None, Ok, codes, All}
+use Rattle.std.specs.List.{flat_map, list_any}
+use Rattle.httparse.specs.Grammar.{crlf, Field as Line, IsField, RequestHead, IsRequestHead, print_request, trim_ows}
+use Rattle.rs_wire.specs.declared.field.Field.{Field}
+use Rattle.rs_wire.specs.declared.fault.WireWhy.{WireWhy}
+use Rattle.rs_wire.specs.declared.framing.Framing.{Framing}
+use Rattle.rs_wire.specs.declared.framing.Framing.TheVariants.{Unstated, Length, Chunked}
+use Rattle.rs_wire.specs.declared.message.RequestMessage.{RequestMessage}
+use Rattle.rs_wire.specs.declared.message.ReplyMessage.{ReplyMessage}
+use Rattle.rs_wire.specs.declared.limits.TheConstants.{FIELD_LIMIT, HEAD_LIMIT}
+use Rattle.rs_wire.specs.Framing.{head_framing, closes, is_coding, stated}
+
+-- name ":" SP value CR LF
+abbrev pub field_text : Field → List ℕ
+field_text f = f.name ++ (codes ": " ++ (f.value ++ (13 ∷ 10 ∷ [])))
+
+-- the fields, and the empty line after them
+abbrev pub fields_text : List Field → List ℕ
+fields_text fields = flat_map field_text fields ++ (13 ∷ 10 ∷ [])
+
+-- method SP target SP "HTTP/1.1" CR LF fields
+abbrev pub request_head_text : RequestMessage → List ℕ
+request_head_text m = m.method ++ (32 ∷ (m.target ++ (codes " HTTP/1.1" ++ (13 ∷ 10 ∷ fields_text m.fields))))
+
+-- the bytes of a request, in version 1.1
+abbrev pub request_text : RequestMessage → List ℕ
+request_text m = request_head_text m ++ m.body
+
+-- a field line with one space after the colon
+abbrev pub line_for : Field → Line
+line_for f = record { name = f.name; raw = 32 ∷ f.value; end = crlf }
+
+-- the head of a request, with each line ended by CR LF
+abbrev pub head_for : RequestMessage → RequestHead
+head_for m = record {
+  blank = [];
+  method = m.method;
+  target = m.target;
+  minor = m.minor;
+  line_end = crlf;
+  fields = map line_for m.fields;
+  last = crlf;
+}
+
+-- the request has a spelling that is its written one: version 1.1, a body as long as its Content-Length says or none, and no
+-- Transfer-Encoding
+pub record IsWritable (m : RequestMessage) : Type 0 where
+  pub minor : m.minor ≡ 1
+  pub head : IsRequestHead (head_for m)
+  pub trimmed : All (λ f. trim_ows f.value ≡ f.value) m.fields
+  pub few : length m.fields ≤ FIELD_LIMIT
+  pub framed : head_framing m.minor (length m.target) m.fields ≡ Ok (Length (length m.body))
+  pub close : m.close ≡ closes m.minor m.fields
+  pub short : length (print_request (head_for m)) ≤ HEAD_LIMIT
+
+-- ---- replies
+
+-- the phrase of a status, as it is written
+abbrev pub phrase_of : ℕ → List ℕ
+phrase_of status =
+    if status == 100 then codes "Continue"
+    else (if status == 200 then codes "OK"
+    else (if status == 201 then codes "Created"
+    else (if status == 204 then codes "No Content"
+    else (if status == 302 then codes "Found"
+    else (if status == 304 then codes "Not Modified"
+    else (if status == 400 then codes "Bad Request"
+    else (if status == 401 then codes "Unauthorized"
+    else (if status == 403 then codes "Forbidden"
+    else (if status == 404 then codes "Not Found"
+    else (if status == 405 then codes "Method Not Allowed"
+    else (if status == 409 then codes "Conflict"
+    else (if status == 412 then codes "Precondition Failed"
+    else (if status == 413 then codes "Content Too Large"
+    else (if status == 414 then codes "URI Too Long"
+    else (if status == 431 then codes "Request Header Fields Too Large"
+    else (if status == 500 then codes "Internal Server Error"
+    else (if status == 501 then codes "Not Implemented"
+    else (if status == 503 then codes "Service Unavailable"
+    else (if status == 507 then codes "Insufficient Storage" else [])))))))))))))))))))
+
+-- the three digits of a status
+abbrev pub status_digits : ℕ → List ℕ
+status_digits status = (48 + status / 100 % 10) ∷ (48 + status / 10 % 10) ∷ (48 + status % 10) ∷ []
+
+-- "HTTP/1.1" SP status SP phrase CR LF fields
+abbrev pub reply_head_text : ReplyMessage → List ℕ
+reply_head_text m = codes "HTTP/1.1 " ++ (status_digits m.status ++ (32 ∷ (phrase_of m.status ++ (13 ∷ 10 ∷ fields_text m.fields))))
+
+-- the bytes of a reply
+abbrev pub reply_text : ReplyMessage → List ℕ
+reply_text m = reply_head_text m ++ m.body
+
+-- a reply that has no body whatever its fields say: the reply to HEAD, 204 and 304
+abbrev pub has_no_body : Bool → ℕ → Bool
+has_no_body bodiless status = bodiless || (status == 204 || status == 304)
+
+-- the body is as long as the fields say, where they say it
+abbrev pub IsReplyBody : Result Framing WireWhy → List ℕ → Type 0
+IsReplyBody (Ok Unstated) body = ⊤
+IsReplyBody (Ok (Length n)) body = n ≡ length body
+IsReplyBody (Ok Chunked) body = ⊥
+IsReplyBody (Err why) body = ⊥
+
+-- the reply has a spelling that is its written one: a status with a phrase, and no Transfer-Encoding
+pub record IsWritableReply (bodiless : Bool) (m : ReplyMessage) : Type 0 where
+  pub phrase : 0 < length (phrase_of m.status)
+  pub valid : All IsField (map line_for m.fields)
+  pub trimmed : All (λ f. trim_ows f.value ≡ f.value) m.fields
+  pub uncoded : list_any is_coding m.fields ≡ false
+  pub framing : is_ok (stated m.fields) ≡ true
+  pub empty : has_no_body bodiless m.status ≡ true → m.body ≡ []
+  pub framed : has_no_body bodiless m.status ≡ false → IsReplyBody (stated m.fields) m.body

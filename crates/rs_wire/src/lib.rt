@@ -1,0 +1,29 @@
+//! Messages of HTTP/1.1 (RFC 9112), read from bytes that come in any pieces, and written.
+#![tactic(auto)]
+
+mod body;
+mod buffer;
+mod chunk;
+mod division;
+mod fault;
+mod field;
+mod framing;
+mod head;
+mod item;
+mod limits;
+mod message;
+mod name;
+mod reader;
+mod search;
+mod spelling;
+#[cfg(test)]
+mod tests;
+mod write;
+
+pub use division::one_division;
+pub use fault::{NextFault, ReplyFault, WireFault, WireWhy};
+pub use field::{Field, Fields};
+pub use message::{ReplyMessage, RequestMessage, Step};
+pub use reader::RequestReader;
+pub use spelling::spelled_requests;
+pub use write::{write_reply, write_request};

@@ -1,0 +1,151 @@
+//! Messages, written (RFC 9112, sections 3 to 6).
+
+ghost use Rattle.std.specs.Prelude.{◌≡◌, ◌++◌, IfOk, OnOk, OnErr};
+ghost use Rattle.rs_wire.specs.Writing.{field_text, fields_text, request_head_text, request_text, IsWritable, reply_head_text, reply_text, status_digits, phrase_of, IsWritableReply};
+
+use crate::field::Field;
+use crate::message::{ReplyMessage, RequestMessage};
+use rs_path::NoMemory;
+use std::alloc::Global;
+
+/// Writes a request of version 1.1 at the end of `out`. Where there is no memory, `out` is as before.
+///
+/// The request is one that has a spelling with no Transfer-Encoding field.
+pub fn write_request(alloc: Global, it: &RequestMessage, out: &mut Vec<u8>) -> Result<(), NoMemory>
+    requires { IsWritable it.now }
+    ensures ok { OnOk result (out.new.items ≡ out.old.items ++ request_text it.now) }
+    ensures err { OnErr result (out.new.items ≡ out.old.items) }
+{
+    let head = request_head(alloc, it)?;
+    put_both(head.as_slice(), it.body.as_slice(), out)
+}
+
+/// Writes a reply of version 1.1 at the end of `out`. Where there is no memory, `out` is as before.
+///
+/// The status has a phrase and the reply a spelling with no Transfer-Encoding field; `bodiless` says that it answers a HEAD.
+pub fn write_reply(
+    alloc: Global,
+    it: &ReplyMessage,
+    bodiless: bool,
+    out: &mut Vec<u8>,
+) -> Result<(), NoMemory>
+    requires { IsWritableReply bodiless it.now }
+    ensures ok { OnOk result (out.new.items ≡ out.old.items ++ reply_text it.now) }
+    ensures err { OnErr result (out.new.items ≡ out.old.items) }
+{
+    let head = reply_head(alloc, it)?;
+    put_both(head.as_slice(), it.body.as_slice(), out)
+}
+
+/// Puts a head and a body at the end, both or neither.
+fn put_both(head: &[u8], body: &[u8], out: &mut Vec<u8>) -> Result<(), NoMemory>
+    ensures ok { OnOk result (out.new.items ≡ out.old.items ++ (head.now ++ body.now)) }
+    ensures err { OnErr result (out.new.items ≡ out.old.items) }
+{
+    let before = out.len();
+    out.extend_from_slice(head)?;
+    match out.extend_from_slice(body) {
+        Ok(()) => Ok(()),
+        Err(_) => {
+            out.truncate(before);
+            Err(NoMemory)
+        }
+    }
+}
+
+/// The head of a request.
+fn request_head(alloc: Global, it: &RequestMessage) -> Result<Vec<u8>, NoMemory>
+    ensures { IfOk result (λ head. head.items ≡ request_head_text it.now) }
+{
+    let mut head = Vec::new(alloc);
+    put(it.method.as_slice(), &mut head)?;
+    put(b" ", &mut head)?;
+    put(it.target.as_slice(), &mut head)?;
+    put(b" HTTP/1.1\r\n", &mut head)?;
+    put_fields(it.fields.as_slice(), &mut head)?;
+    Ok(head)
+}
+
+/// The head of a reply.
+fn reply_head(alloc: Global, it: &ReplyMessage) -> Result<Vec<u8>, NoMemory>
+    ensures { IfOk result (λ head. head.items ≡ reply_head_text it.now) }
+{
+    let mut head = Vec::new(alloc);
+    put(b"HTTP/1.1 ", &mut head)?;
+    put(&status_digits(it.status), &mut head)?;
+    put(b" ", &mut head)?;
+    put(phrase_of(it.status), &mut head)?;
+    put(b"\r\n", &mut head)?;
+    put_fields(it.fields.as_slice(), &mut head)?;
+    Ok(head)
+}
+
+/// The three digits of a status.
+fn status_digits(status: u16) -> [u8; 3]
+    ensures { result ≡ status_digits status }
+{
+    [
+        b'0' + (status / 100 % 10) as u8,
+        b'0' + (status / 10 % 10) as u8,
+        b'0' + (status % 10) as u8,
+    ]
+}
+
+/// The phrase of a status (RFC 9110, section 15, and RFC 6585).
+fn phrase_of(status: u16) -> &'static [u8]
+    ensures { result.now ≡ phrase_of status }
+{
+    match status {
+        100 => b"Continue",
+        200 => b"OK",
+        201 => b"Created",
+        204 => b"No Content",
+        302 => b"Found",
+        304 => b"Not Modified",
+        400 => b"Bad Request",
+        401 => b"Unauthorized",
+        403 => b"Forbidden",
+        404 => b"Not Found",
+        405 => b"Method Not Allowed",
+        409 => b"Conflict",
+        412 => b"Precondition Failed",
+        413 => b"Content Too Large",
+        414 => b"URI Too Long",
+        431 => b"Request Header Fields Too Large",
+        500 => b"Internal Server Error",
+        501 => b"Not Implemented",
+        503 => b"Service Unavailable",
+        507 => b"Insufficient Storage",
+        _ => b"",
+    }
+}
+
+/// Puts bytes at the end.
+fn put(bytes: &[u8], out: &mut Vec<u8>) -> Result<(), NoMemory>
+    ensures { OnOk result (out.new.items ≡ out.old.items ++ bytes.now) }
+{
+    out.extend_from_slice(bytes)?;
+    Ok(())
+}
+
+/// Puts fields and the empty line after them at the end.
+fn put_fields(fields: &[Field], out: &mut Vec<u8>) -> Result<(), NoMemory>
+    ensures { OnOk result (out.new.items ≡ out.old.items ++ fields_text fields.now) }
+{
+    for field in fields {
+        put_field(field, out)?;
+    }
+    put(b"\r\n", out)?;
+    Ok(())
+}
+
+/// Puts a field line at the end.
+fn put_field(field: &Field, out: &mut Vec<u8>) -> Result<(), NoMemory>
+    ensures { OnOk result (out.new.items ≡ out.old.items ++ field_text field.now) }
+{
+    put(field.name.as_slice(), out)?;
+    put(b": ", out)?;
+    put(field.value.as_slice(), out)?;
+    put(b"\r\n", out)?;
+    Ok(())
+}
