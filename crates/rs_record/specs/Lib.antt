@@ -1,1 +1,4 @@
 pub mod Records
+pub mod Rows
+pub mod RowReadings
+pub mod RowHeads

@@ -1,6 +1,19 @@
 //! The records of a user, and the rows that keep them.
 #![tactic(auto)]
 
+mod decoding;
+mod encoding;
+mod field;
+mod laws;
+mod parts;
+mod record_fault;
 mod records;
+#[cfg(test)]
+mod tests;
+mod text;
 
-pub use records::Record;
+pub use decoding::decode;
+pub use encoding::encode;
+pub use laws::row_laws;
+pub use record_fault::RecordFault;
+pub use records::{MAX_BODY, MAX_PLAIN_BODY, Record};
