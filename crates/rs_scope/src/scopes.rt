@@ -64,6 +64,7 @@ impl Scopes {
         ensures ok { OnOk result (out.new.items ≡ out.old.items ++ scopes_text self.now) }
         ensures err { OnErr result (out.new.items ≡ out.old.items) }
         ensures back { scopes_reading (scopes_text self.now) ≡ Ok self.now }
+        ensures short { length (scopes_text self.now) ≤ 1024 }
     {
         let text = text_of(self.list.as_slice(), *self.list.allocator())?;
         out.extend_from_slice(text.as_slice())?;
