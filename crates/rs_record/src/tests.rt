@@ -22,9 +22,9 @@ const WRITTEN_PUT: &[u8] =
 const WRITTEN_REMOVE: &[u8] =
     b"\x02\x02\x00\x01\x02\x03\x04\x05\x06\x07\x08\x09\x0A\x0B\x0C\x0D\x0E\x0F\x00\x08/notes/x";
 
-fn place_of(alloc: Global, row: &[u8]) -> Option<u32> {
+fn place_of(alloc: Global, row: &[u8]) -> Option<usize> {
     match decode(alloc, row) {
-        Err(RecordFault::Bad { place }) => Some(place),
+        Err(RecordFault::Bad { place }) => Some(place as usize),
         _ => None,
     }
 }
@@ -83,11 +83,11 @@ fn rows_are_refused_where_they_are_cut(rt: HostRuntime) -> Result<(), Fail> {
     let alloc = rt.alloc();
     for row in known_rows() {
         for length in 0..row.len() {
-            assert_eq!(rt; place_of(alloc, &row[..length]), Some(length as u32));
+            assert_eq!(rt; place_of(alloc, &row[..length]), Some(length));
         }
         let mut longer = Vec::from_slice(alloc, row)?;
         longer.push(0)?;
-        assert_eq!(rt; place_of(alloc, longer.as_slice()), Some(row.len() as u32));
+        assert_eq!(rt; place_of(alloc, longer.as_slice()), Some(row.len()));
     }
     Ok(())
 }
@@ -95,7 +95,7 @@ fn rows_are_refused_where_they_are_cut(rt: HostRuntime) -> Result<(), Fail> {
 #[test]
 fn wrong_bytes_are_refused_at_their_field(rt: HostRuntime) -> Result<(), Fail> {
     let alloc = rt.alloc();
-    let rows: [(&[u8], usize, u8, u32); 13] = [
+    let rows: [(&[u8], usize, u8, usize); 13] = [
         (PUT, 0, 3, 0),
         (PUT, 0, 0, 0),
         (PUT, 1, 9, 1),
@@ -120,7 +120,7 @@ fn wrong_bytes_are_refused_at_their_field(rt: HostRuntime) -> Result<(), Fail> {
 #[test]
 fn lengths_and_texts_are_two_fields(rt: HostRuntime) -> Result<(), Fail> {
     let alloc = rt.alloc();
-    let rows: [(&[u8], u32); 6] = [
+    let rows: [(&[u8], usize); 6] = [
         (b"\x01\x01\x00\x02/x\x01a\x01\x00\x00\x00", 12),
         (b"\x01\x01\x00\x02/x\x01a\x01\x00\x00\x01", 8),
         (b"\x01\x01\x00\x02/x\x00\x00\x00\x00\x00", 7),
