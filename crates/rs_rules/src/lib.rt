@@ -12,9 +12,15 @@ mod log_entry;
 mod open_fault;
 mod pass;
 mod placed;
+#[cfg(test)]
+mod plain_answer;
 mod reading;
 mod reply;
 mod request;
+#[cfg(test)]
+mod step_cases;
+#[cfg(test)]
+mod step_tests;
 mod tag_list;
 #[cfg(test)]
 mod tests;
