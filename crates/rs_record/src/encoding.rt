@@ -1,16 +1,17 @@
 //! Records spelled as rows.
 
-ghost use Rattle.std.specs.Prelude.{◌≡◌, ◌++◌, ◌<◌, ◌^◌, length, Ok, IfOk, OnOk, OnErr, IsTrue};
+ghost use Rattle.std.specs.Prelude.{◌≡◌, ◌++◌, ◌<◌, ◌≤◌, ◌^◌, false, length, Ok, IfOk, OnOk, OnErr, IsTrue};
 ghost use Rattle.rs_path.specs.Paths.{plain_text};
 ghost use Rattle.rs_scope.specs.Scopes.{scopes_text};
-ghost use Rattle.rs_record.specs.Records.{is_writable};
+ghost use Rattle.rs_record.specs.declared.records.Record.TheVariants.{Put as PutRecord};
+ghost use Rattle.rs_record.specs.Records.{is_writable, body_limit};
 ghost use Rattle.rs_record.specs.Rows.{short_text, spelling};
 ghost use Rattle.rs_record.specs.RowHeads.{put_start, remove_start, document_head, head_of, body_of};
 ghost use Rattle.rs_record.specs.RowReadings.{record_reading};
 
 use crate::parts::look_at_parts;
 use crate::records::Record;
-use rs_path::{Kind, NoMemory, Path};
+use rs_path::{Bytes, Kind, NoMemory, Path};
 use rs_scope::{Scopes, Token};
 use sha2::{Digest, Sha256};
 use std::alloc::Global;
@@ -26,6 +27,25 @@ pub fn encode(it: &Record, out: &mut Vec<u8>) -> Result<(), NoMemory>
     look_at_parts(it);
     let head = head_of(*out.allocator(), it)?;
     append_both(out, head.as_slice(), body_of(it))
+}
+
+/// Appends the row of a document that was put, as `encode` of that record does, without a copy of the body in between.
+pub fn encode_put(
+    path: &Path,
+    kind: &Kind,
+    body: &Bytes,
+    writer: &Option<Token>,
+    out: &mut Vec<u8>,
+) -> Result<(), NoMemory>
+    requires document { path.now.folder ≡ false }
+    requires short { length body.now ≤ body_limit writer.now }
+    ensures ok { OnOk result (out.new.items ≡ out.old.items ++ spelling (PutRecord path.now kind.now body.now writer.now)) }
+    ensures err { OnErr result (out.new.items ≡ out.old.items) }
+{
+    let mut head = Vec::new(*out.allocator());
+    push_put_start(&mut head, writer, body.as_slice())?;
+    push_document_head(&mut head, path, kind, body.as_slice())?;
+    append_both(out, head.as_slice(), body.as_slice())
 }
 
 // Appends two lists, or neither.

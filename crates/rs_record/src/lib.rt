@@ -13,7 +13,7 @@ mod tests;
 mod text;
 
 pub use decoding::decode;
-pub use encoding::encode;
+pub use encoding::{encode, encode_put};
 pub use laws::row_laws;
 pub use record_fault::RecordFault;
 pub use records::{MAX_BODY, MAX_PLAIN_BODY, Record};

@@ -1,7 +1,7 @@
 //! The rows of known records, their faults and places, and what the contracts leave to a run: that a call with ample
 //! memory answers.
 
-use crate::{Record, RecordFault, decode, encode};
+use crate::{Record, RecordFault, decode, encode, encode_put};
 use rs_path::{Bytes, Kind, Path};
 use rs_scope::{Scopes, Token};
 use std::alloc::Global;
@@ -46,11 +46,18 @@ fn changed(alloc: Global, row: &[u8], index: usize, byte: u8) -> Result<Vec<u8>,
 fn a_put_and_a_grant_have_known_rows(rt: HostRuntime) -> Result<(), Fail> {
     let alloc = rt.alloc();
     let token = Token::of_words(0x0001_0203_0405_0607, 0x0809_0A0B_0C0D_0E0F);
+    let path = Path::read_plain(alloc, b"/notes/x")?;
+    let kind = Kind::read(alloc, b"text/plain")?.expect(&rt, "a content type");
+    let body = Bytes::of(b"hello".to_vec(alloc)?);
+    let writer = Some(token);
+    let mut row = Vec::new(alloc);
+    encode_put(&path, &kind, &body, &writer, &mut row)?;
+    assert_eq!(rt; row.as_slice(), WRITTEN_PUT);
     let put = Record::Put {
-        path: Path::read_plain(alloc, b"/notes/x")?,
-        kind: Kind::read(alloc, b"text/plain")?.expect(&rt, "a content type"),
-        body: Bytes::of(b"hello".to_vec(alloc)?),
-        writer: Some(token),
+        path,
+        kind,
+        body,
+        writer,
     };
     let mut row = Vec::new(alloc);
     encode(&put, &mut row)?;
