@@ -6,12 +6,44 @@ ghost use Rattle.rs_rules.specs.Requests.{is_within_limit};
 
 use crate::request::Request;
 use crate::turn::Turn;
+use rs_path::NoMemory;
+use std::alloc::{AllocError, AllocFailed};
 
 /// Why a desk gives no reply.
 #[derive(Debug, Clone, Copy, PartialEq, Eq)]
 pub enum DeskFault {
     /// Memory ran out.
     NoMemory,
+}
+
+impl From<NoMemory> for DeskFault {
+    ghost use Rattle.rs_rules.specs.declared.desk.DeskFault.TheVariants.{NoMemory};
+
+    ghost from_gives = { λ _ fault. fault ≡ NoMemory };
+
+    fn from(_e: NoMemory) -> DeskFault {
+        DeskFault::NoMemory
+    }
+}
+
+impl From<AllocError> for DeskFault {
+    ghost use Rattle.rs_rules.specs.declared.desk.DeskFault.TheVariants.{NoMemory};
+
+    ghost from_gives = { λ _ fault. fault ≡ NoMemory };
+
+    fn from(_e: AllocError) -> DeskFault {
+        DeskFault::NoMemory
+    }
+}
+
+impl<T: Drop> From<AllocFailed<T>> for DeskFault {
+    ghost use Rattle.rs_rules.specs.declared.desk.DeskFault.TheVariants.{NoMemory};
+
+    ghost from_gives = { λ _ fault. fault ≡ NoMemory };
+
+    fn from(_e: AllocFailed<T>) -> DeskFault {
+        DeskFault::NoMemory
+    }
 }
 
 /// Who answers requests on the histories of its users, one at a time.
@@ -39,6 +71,9 @@ pub trait Desk {
     /// How often a keeper has failed, up to the greatest number of 64 bits.
     ghost faults: { Self → ℕ };
 
+    /// The second is the first some turns later: it stands on the same state and the same keeper.
+    ghost is_later: { Self → Self → Type 0 };
+
     ghost use Rattle.rs_rules.specs.Growth.{Turned};
 
     /// Answers a request of a user: the reply is the `answer` of the user's history as it was at some point of the
@@ -56,5 +91,12 @@ pub trait Desk {
         ensures same_quota { quota self.new ≡ quota self.old }
         ensures same_number { me self.new ≡ me self.old }
         ensures same_alone { alone self.new ≡ alone self.old }
-        ensures later { faults self.old ≤ faults self.new };
+        ensures later { faults self.old ≤ faults self.new }
+        ensures is_later { is_later self.old self.new };
+
+    /// No turn at all.
+    ghost stays: { (desk : Self) → is_later desk desk };
+
+    /// Some turns, and then some more.
+    ghost goes_on: { (a b c : Self) → is_later a b → is_later b c → is_later a c };
 }
