@@ -6,3 +6,4 @@ pub mod ListLemmas
 pub mod ChildLemmas
 pub mod ItemLemmas
 pub mod EntryLemmas
+pub mod FollowLemmas

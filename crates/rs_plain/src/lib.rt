@@ -9,6 +9,8 @@ mod names;
 mod plain_tree;
 mod room;
 mod steps;
+#[cfg(test)]
+mod tests;
 mod versions;
 mod write;
 mod writes;

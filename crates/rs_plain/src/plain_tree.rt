@@ -1,8 +1,8 @@
 //! Plain trees.
 
-ghost use Rattle.std.specs.Prelude.{◌≡◌, ◌∷◌, ◌++◌, [], ◌<◌, ◌≤◌, vec_len, vec_capacity};
+ghost use Rattle.std.specs.Prelude.{◌≡◌, ◌∷◌, ◌++◌, [], ◌<◌, ◌≤◌, true, vec_len, vec_capacity};
 ghost use Rattle.rs_rules.specs.Documents.{others, placed};
-ghost use Rattle.rs_plain.specs.PlainTrees.{StandsFor, other_writes, IsReady};
+ghost use Rattle.rs_plain.specs.PlainTrees.{other_writes, is_written};
 
 use crate::documents::{clash_in, doc_in, live_in};
 use crate::full::full_in;
@@ -78,8 +78,7 @@ impl Tree for PlainTree {
     }
 
     fn remove(&mut self, n: u64, path: &Path) {
-        withdraw(&mut self.docs, path);
-        renumber(&mut self.writes, n, path);
+        remove_in(&mut self.docs, &mut self.writes, n, path);
     }
 }
 
@@ -111,6 +110,18 @@ fn put_in(docs: &mut Vec<Placed>, writes: &mut Vec<Write>, n: u64, room: Room)
             doc,
         },
     );
+}
+
+// Takes away the document at the path; that is the last write of the path.
+fn remove_in(docs: &mut Vec<Placed>, writes: &mut Vec<Write>, n: u64, path: &Path)
+    requires written { is_written writes.old.items path.now ≡ true }
+    requires whole { vec_len writes.old ≤ vec_capacity writes.old }
+    ensures docs { docs.new.items ≡ others path.now docs.old.items }
+    ensures writes { writes.new.items ≡ other_writes path.now writes.old.items ++ record { path = path.now; number = n } ∷ [] }
+    ensures whole { vec_len writes.new ≤ vec_capacity writes.new }
+{
+    withdraw(docs, path);
+    renumber(writes, n, path);
 }
 
 // Takes away the document at the path.

@@ -2,8 +2,8 @@ use Rattle.rs_plain.proofs.WriteLemmas.{remove_stands, remove_written}
 use Rattle.rs_plain.proofs.plain_tree.PlainTreeTree.remove.Goals as goal
 
 -- src/plain_tree.rt:82:9
-pub renumber-requires-clause-written : goal.renumber-requires-clause-written
-renumber-requires-clause-written c =
+pub remove_in-requires-clause-written : goal.remove_in-requires-clause-written
+remove_in-requires-clause-written c =
     let fits = c.requires.fits in
     remove_written c.args.path.now c.args.self.now.docs.items c.args.self.now.writes.items fits.0 fits.1.0 fits.2
 
@@ -11,8 +11,8 @@ renumber-requires-clause-written c =
 pub returns : goal.returns
 returns c = record {
   removed = λ w writer s. (
-    rw (c.withdraw.ensures.items, c.renumber.ensures.items)
+    rw (c.remove_in.ensures.docs, c.remove_in.ensures.writes)
         (remove_stands c.args.self.now.docs.items c.args.self.now.writes.items w c.args.n c.args.path.now writer s.0),
-    c.renumber.ensures.whole,
+    c.remove_in.ensures.whole,
   );
 }
