@@ -1,21 +1,19 @@
 -- A stream has one division into messages, and more bytes change none of them.
 use Rattle.std.proofs.Common.{◌≡◌, ℕ, zero, suc, ◌+◌, ◌-◌, ◌<◌, ◌≤◌, Bool, true, false, not, ◌&&◌, cond, List, [], ◌∷◌, ◌++◌, length, take, drop, Option, Some, None, Result, Ok, Err, refl, sym, ap, ◌∙◌, subst, arith}
 use Rattle.std.specs.Prelude.{nat_lt}
-use Rattle.std.proofs.lemmas.List.{append-nil, length-append, length-drop, drop-append-le, drop-drop}
+use Rattle.std.proofs.lemmas.List.{append-nil, length-drop, drop-append-le, drop-drop}
 use Rattle.rs_wire.specs.declared.fault.WireFault.{WireFault}
 use Rattle.rs_wire.specs.declared.fault.WireWhy.{WireWhy}
-use Rattle.rs_wire.specs.declared.fault.NextFault.{NextFault}
 use Rattle.rs_wire.specs.declared.body.Part.{Part}
 use Rattle.rs_wire.specs.declared.head.Begun.{Begun}
 use Rattle.rs_wire.specs.declared.message.RequestMessage.{RequestMessage}
-use Rattle.rs_wire.specs.declared.message.Step.{Step}
 use Rattle.rs_wire.specs.declared.message.Step.TheVariants.{Message}
 use Rattle.rs_wire.specs.declared.limits.TheConstants.{HEAD_LIMIT}
 use Rattle.rs_wire.specs.declared.search.Spot.TheVariants.{Before}
 use Rattle.rs_wire.specs.Lines.{empty_line, past_breaks}
 use Rattle.rs_wire.specs.RequestHeads.{long_head, with_length, judged, head_ending, head_of}
-use Rattle.rs_wire.specs.Bodies.{Body, unended, ended, spoiled, Turn, waits, goes, ends, fails, turn, fault_at, first_part, body_from}
-use Rattle.rs_wire.specs.Readings.{Reading, unread, refused, begun, reading_by, reading, Fed, Answer, more, interim, message, fault, with_body, body_answer, reading_answer, answer_by, answer, step_of, fed_after}
+use Rattle.rs_wire.specs.Bodies.{Body, unended, ended, spoiled, Turn, waits, goes, ends, fails, turn, first_part, body_from}
+use Rattle.rs_wire.specs.Readings.{Reading, unread, refused, begun, reading_by, reading, Fed, interim, with_body, body_answer, answer_by, answer, step_of, fed_after}
 use Rattle.rs_wire.specs.Division.{message_by, message_at, Divides, fed_next}
 use Rattle.rs_wire.proofs.LinesLemmas.{empty_line_is_found, length-window}
 use Rattle.rs_wire.proofs.HeadLemmas.{head_stays}

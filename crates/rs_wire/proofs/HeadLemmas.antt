@@ -30,7 +30,7 @@ pub judged_some : (place : ℕ) (text : List ℕ) (h : RequestHead) → request_
 unfolding judged
 judged_some place text h is = ap (λ o. option_map_or (judged_head place) o (Err BadHead)) is
 
-pair_fields_of : (lines : List Line) → pair_fields (map name_and_value lines) ≡ fields_of lines
+pub pair_fields_of : (lines : List Line) → pair_fields (map name_and_value lines) ≡ fields_of lines
 pair_fields_of [] = refl
 pair_fields_of (line ∷ lines) = ap (λ rest. record { name = line.name; value = field_value line } ∷ rest) (pair_fields_of lines)
 

@@ -7,7 +7,10 @@ pub mod LengthLemmas
 pub mod LinesLemmas
 pub mod MoveLemmas
 pub mod NameLemmas
+pub mod ReplyLemmas
+pub mod ReplySteps
 pub mod RequestLemmas
+pub mod RunLemmas
 pub mod SpellingLemmas
 pub mod StandsLemmas
 pub mod TextLemmas

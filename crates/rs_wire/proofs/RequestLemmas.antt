@@ -56,7 +56,7 @@ request_reads text h is =
 
 -- ---- a head of the grammar is what it gives
 
-past_breaks_le : (xs : List ℕ) → length (past_breaks xs) ≤ length xs
+pub past_breaks_le : (xs : List ℕ) → length (past_breaks xs) ≤ length xs
 past_breaks_le [] = omega arith
 past_breaks_le (x ∷ xs) = by_test (is_break x) (past_breaks_le xs)
   where
@@ -64,7 +64,7 @@ past_breaks_le (x ∷ xs) = by_test (is_break x) (past_breaks_le xs)
     by_test true later = omega arith
     by_test false later = omega arith
 
-no_blank : (blank : List LineEnd) (text rest : List ℕ) → past_breaks text ≡ text → text ≡ print_blank blank ++ rest → blank ≡ []
+pub no_blank : (blank : List LineEnd) (text rest : List ℕ) → past_breaks text ≡ text → text ≡ print_blank blank ++ rest → blank ≡ []
 no_blank [] text rest clean e = refl
 no_blank (crlf ∷ blank) text rest clean e =
     let after = 10 ∷ (print_blank blank ++ rest) in
@@ -79,7 +79,7 @@ no_blank (lf ∷ blank) text rest clean e =
 abbrev first_of : RequestHead → List ℕ
 first_of h = h.method ++ 32 ∷ (h.target ++ 32 ∷ print_version h.minor)
 
-version_lacks : (k minor : ℕ) → lacks k (codes "HTTP/1.") ≡ true → (48 + minor ≡ k → ⊥) → lacks k (print_version minor) ≡ true
+pub version_lacks : (k minor : ℕ) → lacks k (codes "HTTP/1.") ≡ true → (48 + minor ≡ k → ⊥) → lacks k (print_version minor) ≡ true
 version_lacks k minor fixed other =
     lacks_append k (codes "HTTP/1.") ((48 + minor) ∷ []) fixed (and_from _ _ (not_from_false _ (ne_eqb (48 + minor) k other)) refl)
 

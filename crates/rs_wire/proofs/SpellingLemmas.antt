@@ -1,16 +1,13 @@
 -- What is spelled is read, whatever follows.
-use Rattle.std.proofs.Common.{◌≡◌, ℕ, zero, suc, ◌+◌, ◌-◌, ◌<◌, ◌≤◌, Bool, true, false, not, cond, eqb, List, [], ◌∷◌, ◌++◌, length, take, drop, Option, Some, None, Result, Ok, Err, refl, sym, ap, ◌∙◌, subst, arith}
-use Rattle.std.specs.Prelude.{nat_lt}
+use Rattle.std.proofs.Common.{◌≡◌, ℕ, ◌+◌, ◌<◌, ◌≤◌, true, false, eqb, List, [], ◌∷◌, ◌++◌, length, take, drop, Some, Ok, Err, refl, sym, ap, ◌∙◌, arith}
 use Rattle.std.specs.List.{list_all}
 use Rattle.std.proofs.lemmas.List.{append-nil, append_assoc, length-append, drop-drop, take_all, take_at, drop_at, nil_from_length}
-use Rattle.std.proofs.lemmas.Bool.{and_parts, cond-true, cond-false, lt-ltb, le-ltb, ne_eqb, both_ways, or_from}
+use Rattle.std.proofs.lemmas.Bool.{and_parts, cond-true, cond-false, le-ltb, ne_eqb, both_ways, or_from}
 use Rattle.httparse.specs.Grammar.{RequestHead, IsRequestHead, print_request, print_blank, is_token_byte, print_version, print_end, print_section}
 use Rattle.httparse.proofs.GrammarLemmas.{print_request-append}
-use Rattle.rs_wire.specs.declared.fault.WireWhy.{WireWhy}
 use Rattle.rs_wire.specs.declared.fault.WireWhy.TheVariants.{BadChunk, BodyLong}
 use Rattle.rs_wire.specs.declared.framing.Framing.{Framing}
 use Rattle.rs_wire.specs.declared.framing.Framing.TheVariants as framed
-use Rattle.rs_wire.specs.declared.body.Part.{Part}
 use Rattle.rs_wire.specs.declared.body.Part.TheVariants.{Length, Line, Data, Trailer}
 use Rattle.rs_wire.specs.declared.head.Begun.{Begun}
 use Rattle.rs_wire.specs.declared.message.RequestMessage.{RequestMessage}
@@ -18,10 +15,9 @@ use Rattle.rs_wire.specs.declared.search.Spot.TheVariants.{Before, Fresh}
 use Rattle.rs_wire.specs.declared.limits.TheConstants.{HEAD_LIMIT, BODY_LIMIT, CHUNK_LINE_LIMIT, TRAILER_LIMIT}
 use Rattle.rs_wire.specs.Lines.{is_break, past_breaks, first_line, empty_line}
 use Rattle.rs_wire.specs.ChunkTexts.{size_of}
-use Rattle.rs_wire.specs.RequestTexts.{request_head}
-use Rattle.rs_wire.specs.RequestHeads.{judged_head, judged, with_length, head_of}
-use Rattle.rs_wire.specs.Bodies.{Body, ended, Turn, waits, goes, ends, fails, fault_at, part_after, next_part, size_turn, line_turn, trailer_turn, has_line_end, turn, first_part, body_from}
-use Rattle.rs_wire.specs.Readings.{begun, reading_by, reading, with_body}
+use Rattle.rs_wire.specs.RequestHeads.{judged, with_length, head_of}
+use Rattle.rs_wire.specs.Bodies.{ended, waits, goes, ends, fails, fault_at, part_after, next_part, size_turn, line_turn, trailer_turn, has_line_end, first_part, body_from}
+use Rattle.rs_wire.specs.Readings.{begun, reading_by, reading}
 use Rattle.rs_wire.specs.Division.{message_by, message_at}
 use Rattle.rs_wire.specs.Spelling.{IsLine, Chunks, chunk, last, SpellsBody, Spells}
 use Rattle.rs_wire.proofs.LinesLemmas.{empty_line_is_found, first_line_is_first, window_more}

@@ -8,8 +8,11 @@ pub mod Lines
 pub mod Names
 pub mod Readers
 pub mod Readings
+pub mod Replies
+pub mod ReplyTexts
 pub mod RequestHeads
 pub mod RequestTexts
+pub mod Runs
 pub mod Sought
 pub mod Spelling
 pub mod Texts

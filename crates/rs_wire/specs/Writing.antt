@@ -1,5 +1,5 @@
 -- The bytes of a request and of a reply as they are written (RFC 9112, sections 3 to 6).
-use Rattle.std.specs.Prelude.{◌≡◌, ◌≤◌, ◌<◌, ◌==◌, ◌||◌, Bool, true, false, if◌then◌else◌, is_ok, Result, Err, ⊤, ℕ, ◌+◌, ◌/◌, ◌%◌, List, [], ◌∷◌, ◌++◌, length, map, Option, Some, None, Ok, codes, All}
+use Rattle.std.specs.Prelude.{◌≡◌, ◌≤◌, ◌<◌, ◌==◌, ◌||◌, Bool, true, false, if◌then◌else◌, is_ok, Result, Err, ⊤, ℕ, ◌+◌, ◌/◌, ◌%◌, List, [], ◌∷◌, ◌++◌, length, map, Ok, codes, All}
 use Rattle.std.specs.List.{flat_map, list_any}
 use Rattle.httparse.specs.Grammar.{crlf, Field as Line, IsField, RequestHead, IsRequestHead, print_request, trim_ows}
 use Rattle.rs_wire.specs.declared.field.Field.{Field}

@@ -60,7 +60,7 @@ fn at_most(left: u64, rest: &[u8]) -> usize
 }
 
 /// The number of bytes up to and with the first LF, where there is none in the first bytes.
-fn first_line(bytes: &[u8], sought: usize) -> Option<usize>
+pub(crate) fn first_line(bytes: &[u8], sought: usize) -> Option<usize>
     ensures within { IfSome result (λ count. (0 < count) × (count ≤ length bytes.now)) }
     ensures found { sought ≤ length bytes.now → first_line (take sought bytes.now) ≡ None
         → result ≡ first_line bytes.now }
@@ -74,7 +74,7 @@ fn first_line(bytes: &[u8], sought: usize) -> Option<usize>
 }
 
 /// Whether CR LF stands at the front.
-fn has_line_end(rest: &[u8]) -> bool
+pub(crate) fn has_line_end(rest: &[u8]) -> bool
     ensures { result ≡ has_line_end rest.now }
 {
     rest.len() >= 2 && rest[0] == b'\r' && rest[1] == b'\n'

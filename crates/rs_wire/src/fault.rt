@@ -60,3 +60,14 @@ pub enum ReplyFault {
     /// The allocator had no memory.
     NoMemory,
 }
+
+impl From<NoMemory> for ReplyFault {
+    ghost from_gives = { λ _ e. e ≡ ReplyFault.NoMemory };
+
+    ghost use Rattle.rs_wire.specs.declared.fault.ReplyFault.TheVariants as ReplyFault;
+    ghost use Rattle.std.specs.Prelude.{◌≡◌};
+
+    fn from(_e: NoMemory) -> ReplyFault {
+        ReplyFault::NoMemory
+    }
+}

@@ -31,7 +31,7 @@ pub(crate) struct Begun {
 }
 
 /// A field takes at least so many bytes: a name, a colon and a line end.
-const FIELD_MIN: usize = 3;
+pub(crate) const FIELD_MIN: usize = 3;
 
 /// Bytes of our own.
 pub(crate) fn bytes_of(alloc: Global, text: &[u8]) -> Result<Bytes, NoMemory>
@@ -94,7 +94,7 @@ pub(crate) fn are_breaks(bytes: &[u8]) -> bool
 }
 
 /// The bytes from the first that is no CR and no LF.
-fn past_breaks(mut bytes: &[u8]) -> &[u8]
+pub(crate) fn past_breaks(mut bytes: &[u8]) -> &[u8]
     ensures value { result.now ≡ past_breaks bytes.now }
     ensures clean { past_breaks result.now ≡ result.now }
 {

@@ -14,6 +14,7 @@ mod limits;
 mod message;
 mod name;
 mod reader;
+mod reply;
 mod search;
 mod spelling;
 #[cfg(test)]
@@ -25,5 +26,6 @@ pub use fault::{NextFault, ReplyFault, WireFault, WireWhy};
 pub use field::{Field, Fields};
 pub use message::{ReplyMessage, RequestMessage, Step};
 pub use reader::RequestReader;
+pub use reply::read_reply;
 pub use spelling::spelled_requests;
 pub use write::{write_reply, write_request};
