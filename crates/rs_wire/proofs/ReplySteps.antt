@@ -23,7 +23,7 @@ use Rattle.rs_wire.specs.Framing.{stated}
 use Rattle.rs_wire.specs.Lines.{empty_line, first_line, past_breaks, spot_after}
 use Rattle.rs_wire.specs.ReplyTexts.{response_head}
 use Rattle.rs_wire.specs.RequestHeads.{fields_of, pair_fields}
-use Rattle.rs_wire.specs.Replies.{IsResponseIn, reply_head, judged_reply, reply_ending, reply_head_at, head_step, last_head, IsHeadIn, trailer_ending, trailer_end, last_chunk, data_chunk, sized_chunk, chunk_ending, chunk_at, IsChunkIn, chunk_step, chunks_from, reply_body, reply_framing, ended_reply, framed_reply, headed_reply, reply_of}
+use Rattle.rs_wire.specs.Replies.{IsResponseIn, reply_head, judged_reply, first_byte, reply_ending, reply_head_at, head_step, last_head, IsHeadIn, trailer_ending, trailer_end, last_chunk, data_chunk, sized_chunk, chunk_ending, chunk_at, IsChunkIn, chunk_step, chunks_from, reply_body, reply_framing, ended_reply, framed_reply, headed_reply, reply_of}
 use Rattle.rs_wire.specs.Runs.{Turned, done, on}
 use Rattle.rs_wire.specs.Sought.{IsSought}
 use Rattle.rs_wire.specs.Writing.{has_no_body}
@@ -64,11 +64,11 @@ judged_reply_parts at end text room spans parts fields f =
     ap (λ o. option_map_or (λ h. Ok (reply_head at end h)) o (Err at)) parts.is
     ∙ (λ i. Ok (record { status = code i; fields = all i; place = at; end = end }))
 
-judged_in : (bytes : List ℕ) (at end : ℕ) (text : List ℕ) → at < end → end ≤ length bytes → IsHeadIn bytes at (judged_reply at end text)
+judged_in : (bytes : List ℕ) (at place end : ℕ) (text : List ℕ) → at < end → end ≤ length bytes → IsHeadIn bytes at (judged_reply place end text)
 unfolding judged_reply
-judged_in bytes at end text low high = by_head (response_head text)
+judged_in bytes at place end text low high = by_head (response_head text)
   where
-    by_head : (o : Option ResponseHead) → IsHeadIn bytes at (option_map_or (λ h. Ok (reply_head at end h)) o (Err at))
+    by_head : (o : Option ResponseHead) → IsHeadIn bytes at (option_map_or (λ h. Ok (reply_head place end h)) o (Err place))
     by_head None = tt
     by_head (Some h) = (low, high)
 
@@ -76,7 +76,7 @@ pub head_in : (bytes : List ℕ) (at : ℕ) → at ≤ length bytes → IsHeadIn
 unfolding reply_head_at
 head_in bytes at inside = by_line (empty_line Before (take HEAD_LIMIT (drop at bytes))) refl
   where
-    by_test : (t : Bool) → IsHeadIn bytes at (cond t (Err (length bytes)) (Err at))
+    by_test : (t : Bool) → IsHeadIn bytes at (cond t (Err (length bytes)) (Err (first_byte bytes at)))
     by_test true = tt
     by_test false = tt
 
@@ -86,7 +86,7 @@ head_in bytes at inside = by_line (empty_line Before (take HEAD_LIMIT (drop at b
         let line = empty_line_is_found Before (take HEAD_LIMIT (drop at bytes)) n e in
         let some = line.some in
         let high = line.within in
-        judged_in bytes at (at + n) (past_breaks (take n (drop at bytes))) (omega arith)
+        judged_in bytes at (first_byte bytes at) (at + n) (past_breaks (take n (drop at bytes))) (omega arith)
         (omega (arith, length-take HEAD_LIMIT (drop at bytes), length-drop at bytes))
 
 pub head_short : (bytes : List ℕ) (at : ℕ) → empty_line Before (take HEAD_LIMIT (drop at bytes)) ≡ None → length (drop at bytes) < HEAD_LIMIT
@@ -95,12 +95,12 @@ unfolding reply_head_at
 head_short bytes at none short = ap (reply_ending bytes at) none ∙ cond-true _ _ _ (lt-ltb _ _ short)
 
 pub head_full : (bytes : List ℕ) (at : ℕ) → empty_line Before (take HEAD_LIMIT (drop at bytes)) ≡ None → HEAD_LIMIT ≤ length (drop at bytes)
-    → reply_head_at bytes at ≡ Err at
+    → reply_head_at bytes at ≡ Err (first_byte bytes at)
 unfolding reply_head_at
 head_full bytes at none full = ap (reply_ending bytes at) none ∙ cond-false _ _ _ (le-ltb _ _ full)
 
 pub head_whole : (bytes : List ℕ) (at n : ℕ) → empty_line Before (take HEAD_LIMIT (drop at bytes)) ≡ Some n
-    → reply_head_at bytes at ≡ judged_reply at (at + n) (past_breaks (take n (drop at bytes)))
+    → reply_head_at bytes at ≡ judged_reply (first_byte bytes at) (at + n) (past_breaks (take n (drop at bytes)))
 unfolding reply_head_at
 head_whole bytes at n found = ap (reply_ending bytes at) found
 

@@ -1,5 +1,5 @@
 -- What bytes are as a reply (RFC 9112, sections 4, 6 and 7.1): the reply, or the place from which on they are none.
-use Rattle.std.specs.Prelude.{◌≡◌, ⊤, ℕ, suc, ◌+◌, ◌/◌, ◌==◌, ◌<◌, ◌≤◌, Bool, nat_lt, if◌then◌else◌, List, [], ◌++◌, length, take, drop, Option, Some, None, Result, Ok, Err}
+use Rattle.std.specs.Prelude.{◌≡◌, ⊤, ℕ, suc, ◌+◌, ◌-◌, ◌/◌, ◌==◌, ◌<◌, ◌≤◌, Bool, nat_lt, if◌then◌else◌, List, [], ◌++◌, length, take, drop, Option, Some, None, Result, Ok, Err}
 use Rattle.std.specs.Option.{option_map_or}
 use Rattle.httparse.specs.Grammar.{ResponseHead, status_code}
 use Rattle.httparse.specs.declared.spans.HeaderSpan.{HeaderSpan}
@@ -34,7 +34,7 @@ pub record IsResponseIn (text : List ℕ) (room : List HeaderSpan) (spans : Resp
   pub within : IsResponseWithin text room spans
   pub whole : spans.len ≡ length text
 
--- the head from this place to that end
+-- the head whose first byte is at this place, up to that end
 abbrev pub reply_head : ℕ → ℕ → ResponseHead → ReplyHead
 reply_head at end h = record { status = status_code h; fields = fields_of h.fields; place = at; end = end }
 
@@ -42,10 +42,14 @@ reply_head at end h = record { status = status_code h; fields = fields_of h.fiel
 unfoldable pub judged_reply : ℕ → ℕ → List ℕ → Result ReplyHead ℕ
 judged_reply at end text = option_map_or (λ h. Ok (reply_head at end h)) (response_head text) (Err at)
 
+-- the place of the first byte from the place on that is no CR and no LF, where a head begins
+unfoldable pub first_byte : List ℕ → ℕ → ℕ
+first_byte bytes at = length bytes - length (past_breaks (drop at bytes))
+
 -- where the first HEAD_LIMIT bytes from the place on have this first empty line
 abbrev pub reply_ending : List ℕ → ℕ → Option ℕ → Result ReplyHead ℕ
-reply_ending bytes at None = if nat_lt (length (drop at bytes)) HEAD_LIMIT then Err (length bytes) else Err at
-reply_ending bytes at (Some n) = judged_reply at (at + n) (past_breaks (take n (drop at bytes)))
+reply_ending bytes at None = if nat_lt (length (drop at bytes)) HEAD_LIMIT then Err (length bytes) else Err (first_byte bytes at)
+reply_ending bytes at (Some n) = judged_reply (first_byte bytes at) (at + n) (past_breaks (take n (drop at bytes)))
 
 -- the head that begins at the place, or the place of its fault
 unfoldable pub reply_head_at : List ℕ → ℕ → Result ReplyHead ℕ

@@ -3,7 +3,7 @@
 ghost use Rattle.std.specs.Prelude.{◌≡◌, ◌<◌, ◌≤◌, ◌*◌, ◌+◌, [], length, None, Ok, IfOk, IfNone, IfSome};
 ghost use Rattle.rs_wire.specs.Lines.{past_breaks};
 ghost use Rattle.rs_wire.specs.ReplyTexts.{response_head};
-ghost use Rattle.rs_wire.specs.Replies.{IsResponseIn, judged_reply, reply_head_at, last_head, IsHeadIn, trailer_end, data_chunk, chunk_at, IsChunkIn, chunks_from, reply_body, reply_framing, reply_of, IsReply};
+ghost use Rattle.rs_wire.specs.Replies.{IsResponseIn, judged_reply, first_byte, reply_head_at, last_head, IsHeadIn, trailer_end, data_chunk, chunk_at, IsChunkIn, chunks_from, reply_body, reply_framing, reply_of, IsReply};
 ghost use Rattle.rs_wire.specs.Writing.{has_no_body};
 
 use crate::body::{first_line, has_line_end};
@@ -114,7 +114,7 @@ fn find_parts(text: &[u8], room: &mut [HeaderSpan]) -> Option<ResponseSpans>
     }
 }
 
-/// The head that the whole text is, from this place to that end.
+/// The head that the whole text is, whose first byte is at this place, up to that end.
 fn read_head(
     alloc: Global,
     text: &[u8],
@@ -153,12 +153,22 @@ fn head_of(
     })
 }
 
-/// The head that begins at the place, or the place of its fault.
+/// The place of the first byte from the place on that is no CR and no LF, or the length.
+#[tactic(auto, using(crate::proofs::RequestLemmas::past_breaks_le), unfolding(crate::specs::Replies::first_byte))]
+fn first_byte(bytes: &[u8], at: usize) -> usize
+    requires { at ≤ length bytes.now }
+    ensures { result ≡ first_byte bytes.now at }
+{
+    bytes.len() - past_breaks(&bytes[at..]).len()
+}
+
+/// The head after the place, past CR and LF, or the place of its fault.
 fn head_at(alloc: Global, bytes: &[u8], at: usize) -> Result<Result<ReplyHead, usize>, NoMemory>
     requires { at ≤ length bytes.now }
     ensures found { IfOk result (λ r. r ≡ reply_head_at bytes.now at) }
     ensures within { IfOk result (IsHeadIn bytes.now at) }
 {
+    let place = first_byte(bytes, at);
     let rest = &bytes[at..];
     let window = window(rest, HEAD_LIMIT);
     let mut search = Search::from(Spot::Before);
@@ -166,9 +176,9 @@ fn head_at(alloc: Global, bytes: &[u8], at: usize) -> Result<Result<ReplyHead, u
         if rest.len() < HEAD_LIMIT {
             return Ok(Err(bytes.len()));
         }
-        return Ok(Err(at));
+        return Ok(Err(place));
     };
-    read_head(alloc, past_breaks(&rest[..count]), at, at + count)
+    read_head(alloc, past_breaks(&rest[..count]), place, at + count)
 }
 
 /// The first head that no other follows.
