@@ -15,6 +15,8 @@ mod message;
 mod name;
 mod reader;
 mod reply;
+#[cfg(test)]
+mod reply_tests;
 mod search;
 mod spelling;
 #[cfg(test)]
