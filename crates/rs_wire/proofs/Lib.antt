@@ -14,3 +14,4 @@ pub mod RunLemmas
 pub mod SpellingLemmas
 pub mod StandsLemmas
 pub mod TextLemmas
+pub mod WritingSamples

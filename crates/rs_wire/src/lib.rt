@@ -22,6 +22,8 @@ mod spelling;
 #[cfg(test)]
 mod tests;
 mod write;
+#[cfg(test)]
+mod write_tests;
 
 pub use division::one_division;
 pub use fault::{NextFault, ReplyFault, WireFault, WireWhy};

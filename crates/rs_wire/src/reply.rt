@@ -37,7 +37,16 @@ pub(crate) struct Chunk {
     pub(crate) end: usize,
 }
 
-/// Reads the reply that the bytes are, past replies of a status from 100 to 199; `bodiless` says that it answers a HEAD.
+/// Reads the reply that the bytes are, past replies of a status from 100 to 199 (RFC 9112, sections 4, 6 and 7.1).
+///
+/// `bodiless` says that it answers a HEAD. Such a reply, a 204 and a 304 have no body; else the body is chunked, as long as
+/// Content-Length says, or all that is left.
+///
+/// `Bad` has the place of the first fault, the number of bytes before it: the first byte, past CR and LF, of a head that
+/// isn't in the grammar, that doesn't end within 16,384 bytes, or that states a wrong length or another coding; the first
+/// byte of a chunk's line where that line, of at most 256 bytes, isn't in the grammar or the data has no CR LF behind it;
+/// that of a trailer of more than 16,384 bytes; the number of the bytes where they end too early; the first byte after the
+/// reply.
 pub fn read_reply(alloc: Global, bodiless: bool, bytes: &[u8]) -> Result<ReplyMessage, ReplyFault>
     ensures { IsReply (reply_of bodiless bytes.now) result }
 {
