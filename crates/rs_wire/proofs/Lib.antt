@@ -1,6 +1,8 @@
+pub mod AnswerLemmas
 pub mod BodyLemmas
 pub mod ChunkLemmas
 pub mod DivisionLemmas
+pub mod EndLemmas
 pub mod HeadLemmas
 pub mod ItemLemmas
 pub mod LengthLemmas
@@ -15,3 +17,4 @@ pub mod SpellingLemmas
 pub mod StandsLemmas
 pub mod TextLemmas
 pub mod WritingSamples
+pub mod WrittenLemmas

@@ -4,6 +4,7 @@ pub mod ChunkTexts
 pub mod Division
 pub mod Framing
 pub mod Items
+pub mod Laws
 pub mod Lines
 pub mod Names
 pub mod Readers

@@ -24,6 +24,7 @@ mod tests;
 mod write;
 #[cfg(test)]
 mod write_tests;
+mod written;
 
 pub use division::one_division;
 pub use fault::{NextFault, ReplyFault, WireFault, WireWhy};
@@ -33,3 +34,4 @@ pub use reader::RequestReader;
 pub use reply::read_reply;
 pub use spelling::spelled_requests;
 pub use write::{write_reply, write_request};
+pub use written::written_requests;
