@@ -12,9 +12,11 @@ pub mod NameLemmas
 pub mod ReplyLemmas
 pub mod ReplySteps
 pub mod RequestLemmas
+pub mod RestLemmas
 pub mod RunLemmas
 pub mod SpellingLemmas
 pub mod StandsLemmas
+pub mod TakenLemmas
 pub mod TextLemmas
 pub mod WritingSamples
 pub mod WrittenLemmas

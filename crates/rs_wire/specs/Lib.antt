@@ -16,5 +16,6 @@ pub mod RequestTexts
 pub mod Runs
 pub mod Sought
 pub mod Spelling
+pub mod Taken
 pub mod Texts
 pub mod Writing

@@ -19,6 +19,7 @@ mod reply;
 mod reply_tests;
 mod search;
 mod spelling;
+mod taken;
 #[cfg(test)]
 mod tests;
 mod write;
@@ -33,5 +34,6 @@ pub use message::{ReplyMessage, RequestMessage, Step};
 pub use reader::RequestReader;
 pub use reply::read_reply;
 pub use spelling::spelled_requests;
+pub use taken::taken_requests;
 pub use write::{write_reply, write_request};
 pub use written::written_requests;
