@@ -10,7 +10,9 @@ pub mod LinesLemmas
 pub mod MoveLemmas
 pub mod NameLemmas
 pub mod ReplyLemmas
+pub mod ReplySpellingLemmas
 pub mod ReplySteps
+pub mod ReplyTakenLemmas
 pub mod RequestLemmas
 pub mod RestLemmas
 pub mod RunLemmas

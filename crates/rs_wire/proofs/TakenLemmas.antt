@@ -28,7 +28,7 @@ pub record IsBroken (xs : List ℕ) : Type 0 where
   pub dropped : list_all is_break breaks ≡ true
   pub whole : xs ≡ breaks ++ past_breaks xs
 
-broken : (xs : List ℕ) → IsBroken xs
+pub broken : (xs : List ℕ) → IsBroken xs
 broken [] = record { breaks = []; dropped = refl; whole = refl }
 broken (x ∷ xs) =
     let later = broken xs in

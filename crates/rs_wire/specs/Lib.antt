@@ -10,6 +10,7 @@ pub mod Names
 pub mod Readers
 pub mod Readings
 pub mod Replies
+pub mod ReplySpelling
 pub mod ReplyTexts
 pub mod RequestHeads
 pub mod RequestTexts

@@ -15,6 +15,7 @@ mod message;
 mod name;
 mod reader;
 mod reply;
+mod reply_spelling;
 #[cfg(test)]
 mod reply_tests;
 mod search;
@@ -33,6 +34,7 @@ pub use field::{Field, Fields};
 pub use message::{ReplyMessage, RequestMessage, Step};
 pub use reader::RequestReader;
 pub use reply::read_reply;
+pub use reply_spelling::spelled_replies;
 pub use spelling::spelled_requests;
 pub use taken::taken_requests;
 pub use write::{write_reply, write_request};
