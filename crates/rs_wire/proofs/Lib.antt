@@ -9,6 +9,7 @@ pub mod LengthLemmas
 pub mod LinesLemmas
 pub mod MoveLemmas
 pub mod NameLemmas
+pub mod RepliedLemmas
 pub mod ReplyLemmas
 pub mod ReplySpellingLemmas
 pub mod ReplySteps

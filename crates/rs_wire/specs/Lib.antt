@@ -9,6 +9,7 @@ pub mod Lines
 pub mod Names
 pub mod Readers
 pub mod Readings
+pub mod Replied
 pub mod Replies
 pub mod ReplySpelling
 pub mod ReplyTexts

@@ -14,6 +14,7 @@ mod limits;
 mod message;
 mod name;
 mod reader;
+mod replied;
 mod reply;
 mod reply_spelling;
 #[cfg(test)]
@@ -33,6 +34,7 @@ pub use fault::{NextFault, ReplyFault, WireFault, WireWhy};
 pub use field::{Field, Fields};
 pub use message::{ReplyMessage, RequestMessage, Step};
 pub use reader::RequestReader;
+pub use replied::written_replies;
 pub use reply::read_reply;
 pub use reply_spelling::spelled_replies;
 pub use spelling::spelled_requests;
