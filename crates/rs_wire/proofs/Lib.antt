@@ -19,6 +19,7 @@ pub mod RestLemmas
 pub mod RunLemmas
 pub mod SpellingLemmas
 pub mod StandsLemmas
+pub mod StreamLemmas
 pub mod TakenLemmas
 pub mod TextLemmas
 pub mod WritingSamples

@@ -1,14 +1,20 @@
 -- What the laws of written and of read requests speak of.
-use Rattle.std.specs.Prelude.{ℕ, Bool, false, List, length, None, Result, Ok, Err}
+use Rattle.std.specs.Prelude.{ℕ, ◌+◌, Bool, false, List, [], ◌∷◌, length, None, Result, Ok, Err}
 use Rattle.rs_wire.specs.declared.fault.WireWhy.{WireWhy}
 use Rattle.rs_wire.specs.declared.framing.Framing.{Framing}
 use Rattle.rs_wire.specs.declared.message.RequestMessage.{RequestMessage}
 use Rattle.rs_wire.specs.Framing.{head_framing, expects_interim}
 use Rattle.rs_wire.specs.Readings.{Fed}
+use Rattle.rs_wire.specs.Writing.{request_text}
 
 -- the request at this place in a stream
 abbrev pub placed : ℕ → RequestMessage → RequestMessage
 placed place m = record m { place = place }
+
+-- the requests at their places, where they are written one after another from this place on
+abbrev pub placed_from : ℕ → List RequestMessage → List RequestMessage
+placed_from place [] = []
+placed_from place (m ∷ ms) = placed place m ∷ placed_from (place + length (request_text m)) ms
 
 -- a reader that was fed these bytes from this place on, and answered no fault
 abbrev pub fed_at : ℕ → List ℕ → Bool → Fed

@@ -1,17 +1,19 @@
 //! What is written of requests is read back, as laws.
 
-ghost use Rattle.std.specs.Prelude.{◌≡◌, ◌+◌, ◌++◌, ℕ, List, length, Bool, not, ◌&&◌, if◌then◌else◌, Some};
+ghost use Rattle.std.specs.Prelude.{◌≡◌, ◌+◌, ◌++◌, ℕ, List, length, Bool, not, ◌&&◌, if◌then◌else◌, Some, All};
+ghost use Rattle.std.specs.List.{flat_map};
 ghost use Rattle.rs_wire.specs.declared.framing.Framing.TheVariants.{Length};
 ghost use Rattle.rs_wire.specs.declared.message.RequestMessage.{RequestMessage};
 ghost use Rattle.rs_wire.specs.Framing.{expects_interim};
 ghost use Rattle.rs_wire.specs.Readings.{answer, interim, message};
-ghost use Rattle.rs_wire.specs.Division.{message_at};
+ghost use Rattle.rs_wire.specs.Division.{message_at, Divides};
 ghost use Rattle.rs_wire.specs.Spelling.{Spells};
 ghost use Rattle.rs_wire.specs.Writing.{request_text, IsWritable};
-ghost use Rattle.rs_wire.specs.Laws.{placed, fed_at};
+ghost use Rattle.rs_wire.specs.Laws.{placed, placed_from, fed_at};
 
 /// What `write_request` writes is a spelling of its request, at whatever place of a stream it comes to stand. So it is read
-/// back as that request, whatever follows: with the interim reply before it where the request asks for that, and once.
+/// back as that request, whatever follows: with the interim reply before it where the request asks for that, and once. Several
+/// that are written one after another are read back one after another.
 pub fn written_requests()
     ensures spelled { (place : ℕ) (m : RequestMessage) → IsWritable m → Spells place (placed place m) (request_text m) }
     ensures read { (place : ℕ) (m : RequestMessage) (after : List ℕ) → IsWritable m
@@ -20,4 +22,6 @@ pub fn written_requests()
         → answer (fed_at place (request_text m ++ after) told)
         ≡ (if expects_interim m.minor m.fields (Length (length m.body)) && not told then interim
         else message (placed place m) (place + length (request_text m))) }
+    ensures stream { (ms : List RequestMessage) (place : ℕ) (after : List ℕ) → All IsWritable ms
+        → Divides place (flat_map request_text ms ++ after) (placed_from place ms) (place + length (flat_map request_text ms)) after }
 {}
