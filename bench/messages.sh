@@ -108,11 +108,25 @@ fn read_all(alloc: Global, input: &[u8], size: usize) -> Tally {
     tally
 }
 
-// The nanoseconds that it took, and what was read.
-fn time<R: Clock>(rt: &R, alloc: Global, input: &[u8], size: usize) -> io::Result<(u128, Tally)> {
+// The nanoseconds that it took to read the input so often, each time by a new reader, and what was read in all.
+fn time<R: Clock>(
+    rt: &R,
+    alloc: Global,
+    input: &[u8],
+    size: usize,
+    times: u32,
+) -> io::Result<(u128, Tally)> {
+    let mut all = Tally {
+        messages: 0,
+        body: 0,
+    };
     let start = Instant::now(rt)?;
-    let tally = read_all(alloc, input, size);
-    Ok((start.elapsed(rt)?.as_nanos(), tally))
+    for _ in 0..times {
+        let tally = read_all(alloc, input, size);
+        all.messages = all.messages.saturating_add(tally.messages);
+        all.body = all.body.saturating_add(tally.body);
+    }
+    Ok((start.elapsed(rt)?.as_nanos(), all))
 }
 
 fn report<R: Clock + Print>(
@@ -121,8 +135,9 @@ fn report<R: Clock + Print>(
     name: &str,
     input: &[u8],
     size: usize,
+    times: u32,
 ) -> io::Result<()> {
-    let (took, tally) = time(rt, alloc, input, size)?;
+    let (took, tally) = time(rt, alloc, input, size, times)?;
     let messages = tally.messages;
     let body = tally.body;
     println!(rt; "{name}|{size}|{took}|{messages}|{body}")?;
@@ -183,24 +198,24 @@ fn main(rt: HostRuntime) -> io::Result<()> {
     let alloc = rt.alloc();
     let input = by_length(alloc, 67_108_864)?;
     for _ in 0..7 {
-        report(&rt, alloc, "64 MiB by length", input.as_slice(), 0)?;
-        report(&rt, alloc, "64 MiB by length", input.as_slice(), 1_024)?;
+        report(&rt, alloc, "64 MiB by length", input.as_slice(), 0, 1)?;
+        report(&rt, alloc, "64 MiB by length", input.as_slice(), 1_024, 1)?;
     }
     let input = by_chunks(alloc, 16_384)?;
     for _ in 0..7 {
-        report(&rt, alloc, "64 MiB in chunks", input.as_slice(), 0)?;
-        report(&rt, alloc, "64 MiB in chunks", input.as_slice(), 1_024)?;
+        report(&rt, alloc, "64 MiB in chunks", input.as_slice(), 0, 1)?;
+        report(&rt, alloc, "64 MiB in chunks", input.as_slice(), 1_024, 1)?;
     }
     let few = small(alloc, 1_000)?;
     let many = small(alloc, 1_000_000)?;
     for _ in 0..7 {
-        report(&rt, alloc, "1,000 messages", few.as_slice(), 0)?;
-        report(&rt, alloc, "1,000,000 messages", many.as_slice(), 0)?;
+        report(&rt, alloc, "1,000 messages, 1,000 times", few.as_slice(), 0, 1_000)?;
+        report(&rt, alloc, "1,000,000 messages", many.as_slice(), 0, 1)?;
     }
     let input = long_head(alloc, 16_000)?;
     for _ in 0..7 {
-        report(&rt, alloc, "a head of 16,000 bytes", input.as_slice(), 0)?;
-        report(&rt, alloc, "a head of 16,000 bytes", input.as_slice(), 1)?;
+        report(&rt, alloc, "a head of 16,000 bytes, 100 times", input.as_slice(), 0, 100)?;
+        report(&rt, alloc, "a head of 16,000 bytes, 100 times", input.as_slice(), 1, 100)?;
     }
     Ok(())
 }
