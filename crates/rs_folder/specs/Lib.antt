@@ -1,0 +1,4 @@
+pub mod Descriptions
+pub mod FolderData
+pub mod FolderReadings
+pub mod Keys
