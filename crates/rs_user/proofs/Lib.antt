@@ -1,0 +1,7 @@
+mod FrontLemmas
+mod GrantLemmas
+mod MayLemmas
+pub mod OpeningLemmas
+mod StandingLemmas
+mod StepLemmas
+mod TurnLemmas

@@ -1,0 +1,5 @@
+pub mod Grants
+pub mod Standing
+pub mod Decisions
+pub mod Turns
+pub mod Openings

@@ -1,0 +1,80 @@
+-- What rows are opened as.
+use Rattle.std.specs.Prelude.{◌≡◌, ℕ, ◌+◌, Bool, true, false, ◌&&◌, nat_lt, List, [], ◌∷◌, Result, Ok, Err, if◌then◌else◌}
+use Rattle.rs_record.specs.declared.record_fault.RecordFault.{RecordFault}
+use Rattle.rs_record.specs.declared.record_fault.RecordFault.TheVariants.{Bad, NoMemory as NoMemoryToRead}
+use Rattle.rs_record.specs.declared.records.Record.{Record}
+use Rattle.rs_record.specs.Rows.{spelling}
+use Rattle.rs_record.specs.RowReadings.{record_reading}
+use Rattle.rs_rules.specs.declared.open_fault.OpenFault.{OpenFault}
+use Rattle.rs_rules.specs.declared.open_fault.OpenFault.TheVariants.{BadRow, Unlawful, KeeperFailed, NoMemory}
+use Rattle.rs_rules.specs.Limits.{max_len}
+use Rattle.rs_rules.specs.Histories.{History, empty_base, start, len, with_entry}
+use Rattle.rs_rules.specs.Contents.{Contents}
+use Rattle.rs_rules.specs.Snapshots.{snapshot}
+use Rattle.rs_rules.specs.Lawful.{may_follow}
+use Rattle.rs_user.specs.declared.state.UserState.{UserState}
+use Rattle.rs_user.specs.Standing.{StandsFor}
+use Rattle.rs_user.specs.Turns.{rows_of}
+
+-- some request adds the record to the history: there is room for it, and it stands rightly
+abbrev pub may_be_next : History → Record → Bool
+may_be_next h what = nat_lt (len h) max_len && may_follow (snapshot h) what
+
+-- the history and the record that a row spells; whoever made it isn't known
+abbrev pub with_reading : ℕ → History → Result Record RecordFault → Result History OpenFault
+with_reading index h (Ok what) =
+    if may_be_next h what then Ok (with_entry h (record { who = 0; what = what })) else Err (Unlawful index)
+with_reading index h (Err (Bad place)) = Err (BadRow index place)
+with_reading index h (Err NoMemoryToRead) = Err NoMemory
+
+-- the `?` of the logic: what follows, if there is no fault
+infixl 10 ◌>>=◌
+abbrev pub ◌>>=◌ : {A B : Type 0} → Result A OpenFault → (A → Result B OpenFault) → Result B OpenFault
+Ok x >>= f = f x
+Err fault >>= f = Err fault
+
+-- the history and the records of more rows, of which the first has the index; the first row that is no record, or whose
+-- record doesn't stand rightly after those before it, is refused
+abbrev pub opening_from : ℕ → History → List (List ℕ) → Result History OpenFault
+opening_from index h [] = Ok h
+opening_from index h (row ∷ rows) = with_reading index h (record_reading row) >>= λ now. opening_from (index + 1) now rows
+
+-- the history that rows spell
+abbrev pub opening : List (List ℕ) → Result History OpenFault
+opening rows = opening_from 0 (start empty_base) rows
+
+module _ {T R : Type 0} (tree_stands : T → Contents → Type 0) where
+  -- the state stands for the history that the rows spell
+  pub record Opened (state : UserState T R) (kept : List (List ℕ)) : Type 0 where
+    pub history : History
+    pub spelled : opening kept ≡ Ok history
+    pub rows : kept ≡ rows_of history
+    pub stands : StandsFor tree_stands state history
+
+  -- the rows were opened, or refused at the first row that is wrong, or they could not be read, or memory ran out
+  abbrev pub Opens : Result (UserState T R) OpenFault → List (List ℕ) → Type 0
+  Opens (Ok state) rows = Opened state rows
+  Opens (Err (BadRow index place)) rows = opening rows ≡ Err (BadRow index place)
+  Opens (Err (Unlawful index)) rows = opening rows ≡ Err (Unlawful index)
+  Opens (Err KeeperFailed) rows = Unit {0}
+  Opens (Err NoMemory) rows = Unit {0}
+
+  -- what one record has done to the state, which stood for the history; it was the row's at the index
+  abbrev pub TakesRecord : UserState T R → Result (Unit {0}) OpenFault → ℕ → History → Record → Type 0
+  TakesRecord state (Ok done) index h what =
+      (may_be_next h what ≡ true) × StandsFor tree_stands state (with_entry h (record { who = 0; what = what }))
+  TakesRecord state (Err (BadRow at place)) index h what = ⊥
+  TakesRecord state (Err (Unlawful at)) index h what = (at ≡ index) × (may_be_next h what ≡ false)
+  TakesRecord state (Err KeeperFailed) index h what = ⊥
+  TakesRecord state (Err NoMemory) index h what = Unit {0}
+
+  -- what one row has done to the state
+  abbrev pub TakesRow : UserState T R → Result (Unit {0}) OpenFault → List ℕ → ℕ → History → Type 0
+  TakesRow state (Ok done) row index h =
+      (what : Record) × (record_reading row ≡ Ok what) × (row ≡ spelling what) × (may_be_next h what ≡ true)
+      × StandsFor tree_stands state (with_entry h (record { who = 0; what = what }))
+  TakesRow state (Err (BadRow at place)) row index h = (at ≡ index) × (record_reading row ≡ Err (Bad place))
+  TakesRow state (Err (Unlawful at)) row index h =
+      (at ≡ index) × ((what : Record) × (record_reading row ≡ Ok what) × (may_be_next h what ≡ false))
+  TakesRow state (Err KeeperFailed) row index h = ⊥
+  TakesRow state (Err NoMemory) row index h = Unit {0}

@@ -1,0 +1,122 @@
+//! Turns of a state.
+
+ghost use Rattle.std.specs.Prelude.{◌≡◌, ◌≤◌, ℕ, true};
+ghost use Rattle.rs_rules.specs.declared.request.Request.TheVariants.{Store, Grant, Revoke};
+ghost use Rattle.rs_rules.specs.Histories.{History};
+ghost use Rattle.rs_rules.specs.Requests.{is_within_limit};
+ghost use Rattle.rs_user.specs.Standing.{StandsFor};
+ghost use Rattle.rs_user.specs.Turns.{Turns};
+
+use crate::decision::Decision;
+use crate::granted::scopes_in;
+use crate::limits::MAX_LEN;
+use crate::state::UserState;
+use rs_face::Keeper;
+use rs_rules::{Call, DeskFault, Reply, Request, Tree, Turn, answer_laws, lawful_laws, taken_laws};
+use rs_scope::{Scopes, Token};
+
+impl<T: Tree> UserState<T> {
+    /// Answers a request that is asked under the number `who`, and keeps what it adds: the row of its record is appended
+    /// to the keeper, and then the state changes. The state doesn't keep the number.
+    ///
+    /// For every history that the state stands for, the reply is its `answer` and the front its length; the state then
+    /// stands for it followed by what was taken, and the told rows have grown by the row of just that. `StoreFailed`
+    /// comes only where the keeper's count of faults rose; then, and at `NoMemory`, the state stands for what it stood
+    /// for, and the rows are as before. All growth is made room for before the row is appended.
+    pub fn turn<K: Keeper>(
+        &mut self,
+        keeper: &mut K,
+        who: u64,
+        request: &Request,
+    ) -> Result<Turn, DeskFault>
+        requires stands { (h : History) × StandsFor T.stands self.old h }
+        requires rows { K.row_count keeper.old ≡ self.old.rows }
+        requires body { is_within_limit request.now ≡ true }
+        ensures turned { (h : History) → StandsFor T.stands self.old h
+            → Turns T.stands self.new h self.old.quota who request.now result (K.rows keeper.old) (K.rows keeper.new) (K.faults keeper.old) (K.faults keeper.new) }
+        ensures stands { (h : History) × StandsFor T.stands self.new h }
+        ensures later { K.faults keeper.old ≤ K.faults keeper.new }
+        ensures count { K.row_count keeper.new ≡ self.new.rows }
+        ensures quota { self.new.quota ≡ self.old.quota }
+    {
+        match request {
+            Request::Store(call) => self.store(keeper, call),
+            Request::Grant { token, scopes } => self.grant_to(keeper, token, scopes),
+            Request::Revoke { token } => self.revoke_from(keeper, token),
+        }
+    }
+
+    fn store<K: Keeper>(&mut self, keeper: &mut K, call: &Call) -> Result<Turn, DeskFault>
+        requires stands { (h : History) × StandsFor T.stands self.old h }
+        requires rows { K.row_count keeper.old ≡ self.old.rows }
+        requires body { is_within_limit (Store call.now) ≡ true }
+        ensures turned { (h : History) → StandsFor T.stands self.old h
+            → Turns T.stands self.new h self.old.quota who (Store call.now) result (K.rows keeper.old) (K.rows keeper.new) (K.faults keeper.old) (K.faults keeper.new) }
+        ensures later { K.faults keeper.old ≤ K.faults keeper.new }
+        ensures count { K.row_count keeper.new ≡ self.new.rows }
+        ensures quota { self.new.quota ≡ self.old.quota }
+    {
+        lawful_laws();
+        taken_laws();
+        answer_laws();
+        match self.decide(call)? {
+            Decision::Answer(reply) => Ok(Turn {
+                reply,
+                front: self.len,
+            }),
+            Decision::Put { created } => self.keep_put(keeper, call, created),
+            Decision::Remove { version } => self.keep_remove(keeper, call, version),
+        }
+    }
+
+    fn grant_to<K: Keeper>(
+        &mut self,
+        keeper: &mut K,
+        token: &Token,
+        scopes: &Scopes,
+    ) -> Result<Turn, DeskFault>
+        requires stands { (h : History) × StandsFor T.stands self.old h }
+        requires rows { K.row_count keeper.old ≡ self.old.rows }
+        ensures turned { (h : History) (who : ℕ) → StandsFor T.stands self.old h
+            → Turns T.stands self.new h self.old.quota who (Grant token.now scopes.now) result (K.rows keeper.old) (K.rows keeper.new) (K.faults keeper.old) (K.faults keeper.new) }
+        ensures later { K.faults keeper.old ≤ K.faults keeper.new }
+        ensures count { K.row_count keeper.new ≡ self.new.rows }
+        ensures quota { self.new.quota ≡ self.old.quota }
+    {
+        if self.len >= MAX_LEN {
+            return Ok(self.answered(Reply::RecordsFull));
+        }
+        if scopes_in(self.granted.as_slice(), token).is_some() {
+            return Ok(self.answered(Reply::TokenTaken));
+        }
+        self.keep_grant(keeper, token, scopes)
+    }
+
+    fn revoke_from<K: Keeper>(&mut self, keeper: &mut K, token: &Token) -> Result<Turn, DeskFault>
+        requires stands { (h : History) × StandsFor T.stands self.old h }
+        requires rows { K.row_count keeper.old ≡ self.old.rows }
+        ensures turned { (h : History) (who : ℕ) → StandsFor T.stands self.old h
+            → Turns T.stands self.new h self.old.quota who (Revoke token.now) result (K.rows keeper.old) (K.rows keeper.new) (K.faults keeper.old) (K.faults keeper.new) }
+        ensures later { K.faults keeper.old ≤ K.faults keeper.new }
+        ensures count { K.row_count keeper.new ≡ self.new.rows }
+        ensures quota { self.new.quota ≡ self.old.quota }
+    {
+        if scopes_in(self.granted.as_slice(), token).is_none() {
+            return Ok(self.answered(Reply::NotGranted));
+        }
+        if self.len >= MAX_LEN {
+            return Ok(self.answered(Reply::RecordsFull));
+        }
+        self.keep_revoke(keeper, token)
+    }
+
+    // The reply, on all the records that there are.
+    fn answered(&self, reply: Reply) -> Turn
+        ensures turn { result ≡ record { reply = reply; front = self.now.len } }
+    {
+        Turn {
+            reply,
+            front: self.len,
+        }
+    }
+}
