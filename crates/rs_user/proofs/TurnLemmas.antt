@@ -111,13 +111,13 @@ module _ {T R : Type 0} (tree_stands : T → Contents → Type 0) where
   sits state h quota user r (Ok turn) old new before now zero spells turned still grows =
       sits_by (is_store_failed turn.reply) state h quota user r turn old new before now zero spells turned still grows
 
-  stands_by : (failed : Bool) (state : UserState T R) (h : History) (quota : ℕ) (r : Request) (turn : Turn) (old new : Option (List (List ℕ))) (before now : ℕ)
-      → AnswersBy tree_stands failed state h quota 1 r turn old new before now → (x : History) × StandsFor tree_stands state x
-  stands_by true state h quota r turn old new before now answers = (h, answers.still.stands)
-  stands_by false state h quota r turn old new before now answers = (with_entries h (entry_of 1 (taken h quota r)), answers.stands)
+  stands_by : (failed : Bool) (state : UserState T R) (h : History) (quota who : ℕ) (r : Request) (turn : Turn) (old new : Option (List (List ℕ))) (before now : ℕ)
+      → AnswersBy tree_stands failed state h quota who r turn old new before now → (x : History) × StandsFor tree_stands state x
+  stands_by true state h quota who r turn old new before now answers = (h, answers.still.stands)
+  stands_by false state h quota who r turn old new before now answers = (with_entries h (entry_of who (taken h quota r)), answers.stands)
 
-  pub stands_after : (state : UserState T R) (h : History) (quota : ℕ) (r : Request) (result : Result Turn DeskFault) (old new : Option (List (List ℕ))) (before now : ℕ)
-      → Turns tree_stands state h quota 1 r result old new before now → (x : History) × StandsFor tree_stands state x
-  stands_after state h quota r (Err NoMemory) old new before now turned = (h, turned.stands)
-  stands_after state h quota r (Ok turn) old new before now turned =
-      stands_by (is_store_failed turn.reply) state h quota r turn old new before now turned
+  pub stands_after : (state : UserState T R) (h : History) (quota who : ℕ) (r : Request) (result : Result Turn DeskFault) (old new : Option (List (List ℕ))) (before now : ℕ)
+      → Turns tree_stands state h quota who r result old new before now → (x : History) × StandsFor tree_stands state x
+  stands_after state h quota who r (Err NoMemory) old new before now turned = (h, turned.stands)
+  stands_after state h quota who r (Ok turn) old new before now turned =
+      stands_by (is_store_failed turn.reply) state h quota who r turn old new before now turned

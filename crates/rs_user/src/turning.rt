@@ -50,7 +50,7 @@ impl<T: Tree> UserState<T> {
         requires stands { (h : History) × StandsFor T.stands self.old h }
         requires rows { K.row_count keeper.old ≡ self.old.rows }
         requires body { is_within_limit (Store call.now) ≡ true }
-        ensures turned { (h : History) → StandsFor T.stands self.old h
+        ensures turned { (h : History) (who : ℕ) → StandsFor T.stands self.old h
             → Turns T.stands self.new h self.old.quota who (Store call.now) result (K.rows keeper.old) (K.rows keeper.new) (K.faults keeper.old) (K.faults keeper.new) }
         ensures later { K.faults keeper.old ≤ K.faults keeper.new }
         ensures count { K.row_count keeper.new ≡ self.new.rows }

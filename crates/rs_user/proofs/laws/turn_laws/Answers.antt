@@ -1,4 +1,4 @@
-use Rattle.std.proofs.Common.{◌≡◌, ℕ, ◌+◌, true, false, not, sym, subst}
+use Rattle.std.proofs.Common.{◌+◌, true, false, not, sym, subst}
 use Rattle.std.proofs.lemmas.Bool.{and_parts}
 use Rattle.rs_record.specs.declared.records.Record.TheVariants.{Put as PutRecord, Remove as RemoveRecord}
 use Rattle.rs_rules.specs.Histories.{len, with_entries}

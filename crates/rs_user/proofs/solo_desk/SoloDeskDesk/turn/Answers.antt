@@ -1,4 +1,5 @@
-use Rattle.rs_user.proofs.TurnLemmas.{sits, stands_after}
+use Rattle.std.proofs.Common.{ℕ, ap}
+use Rattle.rs_user.proofs.TurnLemmas.{sits}
 use Rattle.rs_user.proofs.solo_desk.SoloDeskDesk.turn.Goals as goal
 
 pub returns-clause-turned : goal.returns-clause-turned
@@ -9,10 +10,7 @@ returns-clause-turned g c h stands =
     (c.turn.ensures.turned h stands.1) (c.growth_laws.ensures.still h 1) (c.growth_laws.ensures.alone h quota 1 c.args.request.now)
 
 pub returns-clause-users : goal.returns-clause-users
-returns-clause-users g c other serves =
-    let stands = serves.2 in (
-      serves.0,
-      c.turn.ensures.count,
-      stands_after g.T.Tree.stands c.turn.new.self stands.0 c.args.self.now.state.now.quota c.args.request.now c.turn.result _ _ _ _
-          (c.turn.ensures.turned stands.0 stands.1),
-    )
+returns-clause-users g c other serves = (serves.0, c.turn.ensures.count, c.turn.ensures.stands)
+
+pub returns-clause-same_quota : goal.returns-clause-same_quota
+returns-clause-same_quota g c = ap (λ quota (user : ℕ). quota) c.turn.ensures.quota
