@@ -426,6 +426,31 @@ fn a_token_is_granted_once_and_revoked(rt: HostRuntime) -> Result<(), Fail> {
     Ok(())
 }
 
+// A desk whose first append fails: the same grant is taken when it is asked again.
+fn grant_again<D: Desk>(rt: &impl Abort, alloc: Global, desk: &mut D) -> Result<(), Fail>
+    requires served { D.serves desk.old 0 }
+{
+    let grant = Request::Grant {
+        token: owner(),
+        scopes: Scopes::read(alloc, b"notes:rw")?,
+    };
+    expect(rt, alloc, desk, &grant, b"StoreFailed")?;
+    expect(rt, alloc, desk, &grant, b"Granted")
+}
+
+#[test]
+fn a_grant_that_was_not_kept_is_taken_again(rt: HostRuntime) -> Result<(), Fail> {
+    let alloc = rt.alloc();
+    let failing = Vec::from_slice(alloc, &[1])?;
+    let mut keeper = keeper_of(alloc, &[], failing)?;
+    let Ok(mut state) = UserState::<PlainTree>::open(alloc, &mut keeper, 0) else {
+        return Err("rows that aren't opened")?;
+    };
+    grant_again(&rt, alloc, &mut SoloDesk::new(&mut state, &mut keeper))?;
+    assert_eq!(rt; keeper.len(), 1);
+    Ok(())
+}
+
 #[test]
 fn a_turn_of_the_state_itself(rt: HostRuntime) -> Result<(), Fail> {
     let alloc = rt.alloc();

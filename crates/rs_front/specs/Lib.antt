@@ -1,0 +1,8 @@
+pub mod Accounts
+pub mod Targets
+pub mod Fields
+pub mod Passes
+pub mod Requests
+pub mod StatusLines
+pub mod ReplyBytes
+pub mod FaultBytes

@@ -1,0 +1,27 @@
+//! Serving one connection: what a message asks, and the bytes of its reply.
+#![tactic(auto)]
+
+mod account;
+mod answer;
+mod asked;
+mod fields;
+mod fixed;
+mod lines;
+mod manner;
+mod own_lines;
+mod pass;
+mod reply;
+mod status_lines;
+mod target;
+#[cfg(test)]
+mod tests;
+mod verb;
+
+pub use account::{Account, Accounts, Config};
+pub use answer::Answer;
+pub use asked::{Asked, Refusal, read_request};
+pub use fixed::{fault_line, fault_rest, interim_bytes, starved_bytes};
+pub use manner::{Manner, manner_of};
+pub use reply::{HEAD_ROOM, Written, head_room, write_answer};
+pub use target::{Target, target_of, target_text};
+pub use verb::{Verb, verb_of};
