@@ -22,5 +22,6 @@ pub mod StandsLemmas
 pub mod StreamLemmas
 pub mod TakenLemmas
 pub mod TextLemmas
+pub mod UnfinishedLemmas
 pub mod WritingSamples
 pub mod WrittenLemmas

@@ -24,6 +24,7 @@ mod spelling;
 mod taken;
 #[cfg(test)]
 mod tests;
+mod unfinished;
 mod write;
 #[cfg(test)]
 mod write_tests;
@@ -39,5 +40,6 @@ pub use reply::read_reply;
 pub use reply_spelling::spelled_replies;
 pub use spelling::spelled_requests;
 pub use taken::taken_requests;
+pub use unfinished::unfinished_requests;
 pub use write::{write_reply, write_request};
 pub use written::written_requests;

@@ -12,3 +12,6 @@ pub const BODY_LIMIT: u64 = 67_108_864;
 pub const CHUNK_LINE_LIMIT: usize = 256;
 /// All lines of a trailer together.
 pub const TRAILER_LIMIT: usize = 16_384;
+/// The bytes of a request that isn't whole yet, fewer than these: a head, and a body in chunks of one byte each behind the
+/// longest lines, up to the end of its trailer.
+pub const MESSAGE_LIMIT: u64 = 17_381_228_800;
