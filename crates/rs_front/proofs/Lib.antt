@@ -1,3 +1,10 @@
-pub mod LineLemmas
 pub mod AskedLemmas
+pub mod DecideLemmas
+pub mod DueLemmas
+pub mod InputLemmas
+pub mod LineLemmas
+pub mod OutputLemmas
 pub mod RoomLemmas
+pub mod SendLemmas
+pub mod ServeLemmas
+pub mod SettleLemmas

@@ -1,5 +1,5 @@
 -- The heads of replies without a body of their own are short.
-use Rattle.std.proofs.Common.{◌≡◌, ℕ, ◌+◌, ◌<◌, ◌≤◌, ◌^◌, Bool, true, false, List, [], ◌++◌, length, decimal, codes, arith, if◌then◌else◌, Option, Some, None, Result, Ok, Err, OnErr, refl, subst, sym}
+use Rattle.std.proofs.Common.{◌≡◌, ℕ, ◌+◌, ◌<◌, ◌≤◌, ◌^◌, Bool, true, false, List, [], length, decimal, codes, arith, if◌then◌else◌, Result, Ok, Err, OnErr, refl, subst, sym}
 use Rattle.std.proofs.lemmas.Fmt.{length-decimal-le}
 use Rattle.std.proofs.lemmas.List.{length-append}
 use Rattle.rs_rules.specs.declared.reply.Reply.{Reply}
@@ -13,7 +13,7 @@ use Rattle.rs_front.specs.declared.target.Target.{Target}
 use Rattle.rs_front.specs.declared.target.Target.TheVariants.{Server, Storage, Discovery, Grant, Nothing}
 use Rattle.rs_front.specs.StatusLines.{reply_line, refusal_line, answer_line}
 use Rattle.rs_front.specs.Targets.{method_list}
-use Rattle.rs_front.specs.ReplyBytes.{origin_lines, preflight_lines, tag_text, tag_line, cache_line, is_shown, reply_challenge, challenge_line, allow_text, allow_line, type_of, type_line, type_line_of, has_length, length_text, length_line, close_line, empty_line, first_lines, last_lines, head_with, has_content}
+use Rattle.rs_front.specs.ReplyBytes.{origin_lines, preflight_lines, tag_text, tag_line, cache_line, is_shown, reply_challenge, challenge_line, allow_text, allow_line, type_line, has_length, length_text, length_line, close_line, empty_line, first_lines, last_lines, has_content}
 
 -- an entity tag has at most 20 digits
 pub tag_text_short : (version : ℕ) → version < 2 ^ 64 → length (tag_text version) ≤ 30

@@ -1,5 +1,5 @@
 -- What the Authorization fields of a request show of a token (RFC 6750, section 2.1).
-use Rattle.std.specs.Prelude.{ℕ, Bool, not, ◌==◌, List, [], ◌∷◌, take, drop, Option, Some, None, position, codes, if◌then◌else◌}
+use Rattle.std.specs.Prelude.{ℕ, not, ◌==◌, List, [], ◌∷◌, take, drop, Option, Some, None, position, codes, if◌then◌else◌}
 use Rattle.std.specs.Option.{option_map_or}
 use Rattle.rs_scope.specs.Tokens.{token_reading}
 use Rattle.rs_rules.specs.declared.pass.Pass.{Pass}

@@ -14,7 +14,6 @@ use Rattle.rs_wire.specs.declared.message.RequestMessage.{RequestMessage}
 use Rattle.rs_front.specs.declared.account.Account.{Account}
 use Rattle.rs_front.specs.declared.asked.Asked.{Asked}
 use Rattle.rs_front.specs.declared.asked.Asked.TheVariants.{Desk, Preflight, Refused}
-use Rattle.rs_front.specs.declared.asked.Refusal.{Refusal}
 use Rattle.rs_front.specs.declared.asked.Refusal.TheVariants.{NotFound, NotAllowed, BadPath, BadCondition, BadKind}
 use Rattle.rs_front.specs.declared.target.Target.{Target}
 use Rattle.rs_front.specs.declared.target.Target.TheVariants.{Server, Storage, Discovery, Grant, Nothing}

@@ -1,8 +1,7 @@
 -- What the target of a request is (RFC 9112, section 3.2), and which methods it takes. Which targets there are is own.
-use Rattle.std.specs.Prelude.{ℕ, Bool, true, false, not, ◌&&◌, ◌||◌, ◌==◌, nat_le, List, [], length, take, drop, Option, Some, None, option_map, option_and_then, position, codes, if◌then◌else◌}
+use Rattle.std.specs.Prelude.{ℕ, Bool, true, false, not, ◌&&◌, ◌||◌, ◌==◌, nat_le, List, [], length, take, drop, Option, Some, None, position, codes, if◌then◌else◌}
 use Rattle.std.specs.Option.{option_map_or}
 use Rattle.std.specs.Str.{bytes_eq}
-use Rattle.rs_scope.specs.declared.method.Method.{Method}
 use Rattle.rs_scope.specs.declared.method.Method.TheVariants.{Get, Head, Put, Delete}
 use Rattle.rs_scope.specs.Reach.{is_reading}
 use Rattle.rs_wire.specs.Names.{same_name}

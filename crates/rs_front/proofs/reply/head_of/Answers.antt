@@ -1,4 +1,4 @@
-use Rattle.std.proofs.Common.{ap, length, [], ℕ, List}
+use Rattle.std.proofs.Common.{ap, length, ℕ, List}
 use Rattle.rs_front.proofs.RoomLemmas.{too_long_first, on_err}
 use Rattle.rs_front.proofs.reply.head_of.Goals as goal
 

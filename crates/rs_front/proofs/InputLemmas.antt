@@ -1,0 +1,343 @@
+-- Reading up to the next message.
+use Rattle.std.proofs.Common.{◌≡◌, ℕ, ◌+◌, ◌-◌, ◌<◌, ◌≤◌, ◌⊎◌, inl, inr, Bool, true, false, not, ◌&&◌, cond, List, [], ◌++◌, length, Option, Some, None, Result, Ok, Err, refl, sym, ap, ◌∙◌, subst, arith, append-nil, length-append}
+use Rattle.std.specs.Prelude.{◌≢◌, ◌↔◌}
+use Rattle.std.proofs.lemmas.List.{append_assoc}
+use Rattle.std.specs.Io.KnownBytes.{Consumes, Appends, IsAtEnd}
+use Rattle.rs_face.specs.Causes.{Rose, HasCause}
+use Rattle.rs_face.specs.Told.{AppendsFront}
+use Rattle.rs_face.specs.declared.sink.SinkFault.{SinkFault}
+use Rattle.rs_face.proofs.ToldLemmas.{Consumes-nil, Consumes-trans, Appends-nil}
+use Rattle.rs_face.proofs.CauseLemmas.{Rose-later}
+use Rattle.rs_wire.specs.declared.fault.NextFault.TheVariants.{Wire}
+use Rattle.rs_wire.specs.declared.fault.WireFault.{WireFault}
+use Rattle.rs_wire.specs.declared.fault.WireWhy.TheVariants.{Truncated}
+use Rattle.rs_wire.specs.Bodies.{fault_at}
+use Rattle.rs_wire.specs.declared.limits.TheConstants.{MESSAGE_LIMIT}
+use Rattle.rs_wire.specs.declared.message.RequestMessage.{RequestMessage}
+use Rattle.rs_wire.specs.declared.message.Step.TheVariants.{More, Interim, Message}
+use Rattle.rs_wire.specs.declared.reader.RequestReader.{RequestReader}
+use Rattle.rs_wire.specs.Division.{message_at, fed_next}
+use Rattle.rs_wire.specs.Laws.{fed_at, awaits}
+use Rattle.rs_wire.specs.Readers.{Stands, fed_count}
+use Rattle.rs_wire.specs.Readings.{Fed, Answer, more, interim, message, fault, answer, step_of, fed_after, fed_with, finish_of}
+use Rattle.rs_wire.specs.Taken.{BeginsWith}
+use Rattle.rs_front.specs.declared.input.Next.{Next}
+use Rattle.rs_front.specs.declared.input.Next.TheVariants as next
+use Rattle.rs_front.specs.Courses.{Course}
+use Rattle.rs_front.specs.Due.{interim_of}
+use Rattle.rs_front.specs.Inputs.{ending, ComesOn, most_read, ReadsOn, Comes, ReadsNext}
+use Rattle.rs_front.specs.ReplyBytes.{interim_bytes}
+use Rattle.rs_front.specs.Rests.{after_last, interim_by, pending}
+
+-- ---- what a step says of the answer
+
+more_of : (a : Answer) → step_of a ≡ Ok More → a ≡ more
+more_of more e = refl
+more_of interim e = cc
+more_of (message m end) e = cc
+more_of (fault f) e = cc
+
+interim_is : (a : Answer) → step_of a ≡ Ok Interim → a ≡ interim
+interim_is more e = cc
+interim_is interim e = refl
+interim_is (message m end) e = cc
+interim_is (fault f) e = cc
+
+fault_of : (a : Answer) (f : WireFault) → step_of a ≡ Err (Wire f) → a ≡ fault f
+fault_of more f e = cc
+fault_of interim f e = cc
+fault_of (message m end) f e = cc
+fault_of (fault g) f e = cc
+
+-- how many bytes a reader was fed
+pub count_of : (r : RequestReader) (fed : Fed) → Stands r fed → fed_count r ≡ fed.place + length fed.bytes
+unfolding Stands fed_count
+count_of r fed stands = stands.count
+
+-- ---- reading on
+
+-- bytes were read, and nothing else is known of them
+pub record ReadSoFar (place : ℕ) (bytes : List ℕ) (told : Bool) (new : RequestReader) (source : Course) : Type 0 where
+  pub read : List ℕ
+  pub consumed : Consumes source.old source.new read
+  pub stands : Stands new (fed_at place (bytes ++ read) told)
+
+pub nothing_read : (place : ℕ) (bytes : List ℕ) (told : Bool) (r : RequestReader) (left : Option (List ℕ)) (n : ℕ)
+    → Stands r (fed_at place bytes told) → ReadSoFar place bytes told r (record { old = left; new = left; before = n; now = n })
+nothing_read place bytes told r left n stands = record {
+  read = [];
+  consumed = Consumes-nil left;
+  stands = subst (λ (l : List ℕ). Stands r (fed_at place l told)) (sym (append-nil bytes)) stands;
+}
+
+-- an object that was used once more
+abbrev pub on : Course → Option (List ℕ) → ℕ → Course
+on course new now = record { old = course.old; new = new; before = course.before; now = now }
+
+-- a piece was read
+pub read_more : (place : ℕ) (bytes : List ℕ) (told : Bool) (r r' : RequestReader) (source : Course) (left : Option (List ℕ)) (now : ℕ) (piece : List ℕ)
+    → (so_far : ReadSoFar place bytes told r source) → Consumes source.new left piece
+    → Stands r' (fed_with (fed_at place (bytes ++ so_far.read) told) piece) → ReadSoFar place bytes told r' (on source left now)
+read_more place bytes told r r' source left now piece so_far consumed stands = record {
+  read = so_far.read ++ piece;
+  consumed = Consumes-trans source.old source.new left so_far.read piece so_far.consumed consumed;
+  stands = subst (λ (l : List ℕ). Stands r' (fed_at place l told)) (append_assoc bytes so_far.read piece) stands;
+}
+
+-- the law of what `next` gives
+abbrev pub NextLaw : Type 0
+NextLaw = (fed : Fed) (m : RequestMessage) → step_of (answer fed) ≡ Ok (Message m)
+    → (next : ℕ) × (message_at fed.place fed.bytes ≡ Some (m, next)) × (fed_after fed (answer fed) ≡ fed_next fed next)
+
+pub came_message : NextLaw → (place : ℕ) (bytes : List ℕ) (told : Bool) (r : RequestReader) (source : Course) (read : List ℕ) (m : RequestMessage)
+    → Consumes source.old source.new read → step_of (answer (fed_at place (bytes ++ read) told)) ≡ Ok (Message m)
+    → Stands r (fed_after (fed_at place (bytes ++ read) told) (answer (fed_at place (bytes ++ read) told)))
+    → ReadsOn place bytes told r source (Some (next.Message m))
+came_message law place bytes told r source read m consumed is stands =
+    let given = law (fed_at place (bytes ++ read) told) m is in
+    record {
+      read = read;
+      consumed = consumed;
+      comes = (given.0, given.1, is, subst (Stands r) given.2 stands);
+    }
+
+pub came_interim : (place : ℕ) (bytes : List ℕ) (told : Bool) (r : RequestReader) (source : Course) (read : List ℕ)
+    → Consumes source.old source.new read → step_of (answer (fed_at place (bytes ++ read) told)) ≡ Ok Interim
+    → Stands r (fed_after (fed_at place (bytes ++ read) told) (answer (fed_at place (bytes ++ read) told)))
+    → ReadsOn place bytes told r source None
+came_interim place bytes told r source read consumed is stands =
+    let due = interim_is (answer (fed_at place (bytes ++ read) told)) is in
+    record {
+      read = read;
+      consumed = consumed;
+      comes = (due, subst (λ (a : Answer). Stands r (fed_after (fed_at place (bytes ++ read) told) a)) due stands);
+    }
+
+pub came_fault : (place : ℕ) (bytes : List ℕ) (told : Bool) (r : RequestReader) (source : Course) (read : List ℕ) (f : WireFault)
+    → Consumes source.old source.new read → step_of (answer (fed_at place (bytes ++ read) told)) ≡ Err (Wire f)
+    → ReadsOn place bytes told r source (Some (next.Bad f))
+came_fault place bytes told r source read f consumed is = record {
+  read = read;
+  consumed = consumed;
+  comes = inl (fault_of (answer (fed_at place (bytes ++ read) told)) f is);
+}
+
+-- nothing is known where memory was wanted
+pub came_nothing : (place : ℕ) (bytes : List ℕ) (told : Bool) (r : RequestReader) (source : Course) (read : List ℕ)
+    → Consumes source.old source.new read → ReadsOn place bytes told r source (Some next.NoMemory)
+came_nothing place bytes told r source read consumed = record { read = read; consumed = consumed; comes = tt }
+
+-- the reader waits for more
+pub waits : (place : ℕ) (bytes : List ℕ) (told : Bool) (r : RequestReader) → step_of (answer (fed_at place bytes told)) ≡ Ok More
+    → Stands r (fed_after (fed_at place bytes told) (answer (fed_at place bytes told)))
+    → (answer (fed_at place bytes told) ≡ more) × Stands r (fed_at place bytes told)
+waits place bytes told r is stands =
+    let due = more_of (answer (fed_at place bytes told)) is in
+    (due, subst (λ (a : Answer). Stands r (fed_after (fed_at place bytes told) a)) due stands)
+
+-- ---- the next message
+
+-- what is known of a request before it is whole, and of one that was read
+pub record Laws : Type 0 where
+  pub stays : (place : ℕ) (bytes after : List ℕ) → answer (fed_at place bytes false) ≡ interim → answer (fed_at place (bytes ++ after) false) ≡ interim
+  pub told : (place : ℕ) (bytes : List ℕ) → (answer (fed_at place bytes false) ≡ interim) ⊎ (answer (fed_at place bytes true) ≡ answer (fed_at place bytes false))
+  pub cut : (place : ℕ) (bytes : List ℕ) → answer (fed_at place bytes false) ≡ interim → finish_of (fed_at place bytes true) ≢ Ok tt
+  pub begins : (place : ℕ) (bytes : List ℕ) (m : RequestMessage) (next : ℕ) → message_at place bytes ≡ Some (m, next) → BeginsWith place bytes m next
+  pub given : (fed : Fed) (m : RequestMessage) (next : ℕ) → fed.fault ≡ None → BeginsWith fed.place fed.bytes m next
+      → answer fed ≡ cond (awaits m && not fed.told) interim (message m next)
+
+-- whether the interim reply is told plays no part at the end
+finish_same : (place : ℕ) (bytes : List ℕ) → finish_of (fed_at place bytes false) ≡ finish_of (fed_at place bytes true)
+unfolding finish_of
+finish_same place bytes = refl
+
+-- where the answer isn't the interim reply, it is the same once that was told
+told_same : Laws → (place : ℕ) (bytes : List ℕ) (a : Answer) → answer (fed_at place bytes false) ≡ a → a ≢ interim → after_last place bytes ≡ a
+told_same laws place bytes a is other = elim (laws.told place bytes) [
+  | inl due ↦ absurd (other (sym is ∙ due))
+  | inr same ↦ same ∙ is
+]
+
+none_pending : (place : ℕ) (bytes : List ℕ) (a : Answer) → answer (fed_at place bytes false) ≡ a → interim_by a ≡ [] → [] ≡ pending place bytes
+none_pending place bytes a is none = sym (ap interim_by is ∙ none)
+
+interim_pending : (place : ℕ) (bytes : List ℕ) → answer (fed_at place bytes false) ≡ interim → interim_bytes ≡ pending place bytes
+interim_pending place bytes is = sym (ap interim_by is)
+
+-- a message that was given at once doesn't wait for the interim reply, and one behind that reply does
+given_plain : Laws → (place : ℕ) (rest : List ℕ) (m : RequestMessage) (end : ℕ) → message_at place rest ≡ Some (m, end)
+    → step_of (answer (fed_at place rest false)) ≡ Ok (Message m) → [] ≡ interim_of m
+given_plain laws place rest m end is step = by_test (awaits m) (sym (ap step_of (laws.given (fed_at place rest false) m end refl (laws.begins place rest m end is))) ∙ step)
+  where
+    by_test : (b : Bool) → step_of (cond (b && true) interim (message m end)) ≡ Ok (Message m) → [] ≡ cond b interim_bytes []
+    by_test true e = cc
+    by_test false e = refl
+
+given_told : Laws → (place : ℕ) (rest : List ℕ) (m : RequestMessage) (end : ℕ) → message_at place rest ≡ Some (m, end)
+    → answer (fed_at place rest false) ≡ interim → interim_bytes ≡ interim_of m
+given_told laws place rest m end is due = by_test (awaits m) (sym (laws.given (fed_at place rest false) m end refl (laws.begins place rest m end is)) ∙ due)
+  where
+    by_test : (b : Bool) → cond (b && true) interim (message m end) ≡ interim → interim_bytes ≡ cond b interim_bytes []
+    by_test true e = refl
+    by_test false e = cc
+
+-- nothing was written
+comes_plain : Laws → (place : ℕ) (rest : List ℕ) (r : RequestReader) (source sink : Course) (n : Next) → Appends sink.old sink.new []
+    → ComesOn place rest false r source (Some n) → Comes place rest r source sink n
+comes_plain laws place rest r source sink (next.Message m) wrote comes =
+    (comes.0, comes.1, comes.3, subst (Appends sink.old sink.new) (given_plain laws place rest m comes.0 comes.1 comes.2) wrote)
+comes_plain laws place rest r source sink next.End wrote comes =
+    (told_same laws place rest more comes.0 (λ e. cc), comes.1, sym (finish_same place rest) ∙ comes.2, wrote)
+comes_plain laws place rest r source sink (next.Bad f) wrote comes = elim comes [
+  | inl is ↦ (
+    inl (told_same laws place rest (fault f) is (λ e. cc)),
+    subst (Appends sink.old sink.new) (none_pending place rest (fault f) is refl) wrote,
+  )
+  | inr cut ↦ (
+    inr (told_same laws place rest more cut.0 (λ e. cc), cut.1, sym (finish_same place rest) ∙ cut.2),
+    subst (Appends sink.old sink.new) (none_pending place rest more cut.0 refl) wrote,
+  )
+]
+comes_plain laws place rest r source sink next.NotRead wrote comes = (
+  told_same laws place rest more comes.0 (λ e. cc),
+  comes.1,
+  subst (Appends sink.old sink.new) (none_pending place rest more comes.0 refl) wrote,
+)
+comes_plain laws place rest r source sink next.NoMemory wrote comes = inl wrote
+comes_plain laws place rest r source sink (next.NotWritten e) wrote comes = absurd comes
+
+-- the interim reply was written
+comes_told : Laws → (place : ℕ) (rest : List ℕ) (r : RequestReader) (source sink : Course) (n : Next) → Appends sink.old sink.new interim_bytes
+    → answer (fed_at place rest false) ≡ interim → ComesOn place rest true r source (Some n) → Comes place rest r source sink n
+comes_told laws place rest r source sink (next.Message m) wrote due comes =
+    (comes.0, comes.1, comes.3, subst (Appends sink.old sink.new) (given_told laws place rest m comes.0 comes.1 due) wrote)
+comes_told laws place rest r source sink next.End wrote due comes = absurd (laws.cut place rest due comes.2)
+comes_told laws place rest r source sink (next.Bad f) wrote due comes =
+    (comes, subst (Appends sink.old sink.new) (interim_pending place rest due) wrote)
+comes_told laws place rest r source sink next.NotRead wrote due comes =
+    (comes.0, comes.1, subst (Appends sink.old sink.new) (interim_pending place rest due) wrote)
+comes_told laws place rest r source sink next.NoMemory wrote due comes =
+    inr (subst (Appends sink.old sink.new) (interim_pending place rest due) wrote)
+comes_told laws place rest r source sink (next.NotWritten e) wrote due comes = absurd comes
+
+-- a message, an end or a fault came, and no interim reply was due
+pub reads_plain : Laws → (place : ℕ) (bytes : List ℕ) (r : RequestReader) (source : Course) (written : Option (List ℕ)) (n : ℕ) (came : Next)
+    → ReadsOn place bytes false r source (Some came)
+    → ReadsNext place bytes r source (record { old = written; new = written; before = n; now = n }) came
+reads_plain laws place bytes r source written n came reads = record {
+  read = reads.read;
+  consumed = reads.consumed;
+  comes = comes_plain laws place (bytes ++ reads.read) r source (record { old = written; new = written; before = n; now = n }) came (Appends-nil written) reads.comes;
+}
+
+-- the interim reply was due and couldn't be written
+pub reads_unwritten : (place : ℕ) (bytes : List ℕ) (r : RequestReader) (source sink : Course) (why : SinkFault)
+    → ReadsOn place bytes false r source None → {A : Type 0} → AppendsFront sink.old sink.new interim_bytes → HasCause {A = A} sink.before sink.now SinkFault.Failed (Err why)
+    → ReadsNext place bytes r source sink (next.NotWritten why)
+reads_unwritten place bytes r source sink why reads {A} front cause = record {
+  read = reads.read;
+  consumed = reads.consumed;
+  comes = (subst (AppendsFront sink.old sink.new) (interim_pending place (bytes ++ reads.read) reads.comes.0) front, rose why cause);
+}
+  where
+    rose : (why : SinkFault) → HasCause {A = A} sink.before sink.now SinkFault.Failed (Err why) → why ≡ SinkFault.Failed → Rose sink.before sink.now
+    rose SinkFault.Failed cause e = cause.failed refl
+    rose SinkFault.NoMemory cause e = cc
+
+-- a later fault is one of the whole
+later_fault : (place : ℕ) (rest : List ℕ) (told : Bool) (r : RequestReader) (old mid : Option (List ℕ)) (first : ℕ) (source : Course) (n : Option Next) → first ≤ source.before
+    → ComesOn place rest told r source n → ComesOn place rest told r (record { old = old; new = source.new; before = first; now = source.now }) n
+later_fault place rest told r old mid first source None low comes = comes
+later_fault place rest told r old mid first source (Some (next.Message m)) low comes = comes
+later_fault place rest told r old mid first source (Some next.End) low comes = comes
+later_fault place rest told r old mid first source (Some (next.Bad f)) low comes = comes
+later_fault place rest told r old mid first source (Some next.NotRead) low comes = (comes.0, Rose-later first source.before source.now low comes.1)
+later_fault place rest told r old mid first source (Some next.NoMemory) low comes = comes
+later_fault place rest told r old mid first source (Some (next.NotWritten e)) low comes = comes
+
+-- what was unwrapped came
+pub came_some : (place : ℕ) (bytes : List ℕ) (r : RequestReader) (source : Course) (o : Option Next) (came : Next) → o ≡ Some came
+    → ReadsOn place bytes true r source o → ReadsOn place bytes true r source (Some came)
+came_some place bytes r source o came is reads = subst (ReadsOn place bytes true r source) is reads
+
+-- a message, an end or a fault came behind the interim reply
+pub reads_told : Laws → (place : ℕ) (bytes : List ℕ) (mid r : RequestReader) (source : Course) (left : Option (List ℕ)) (now : ℕ) (sink : Course) (came : Next)
+    → source.before ≤ source.now → Appends sink.old sink.new interim_bytes → (due : ReadsOn place bytes false mid source None)
+    → ReadsOn place (bytes ++ due.read) true r (record { old = source.new; new = left; before = source.now; now = now }) (Some came)
+    → ReadsNext place bytes r (on source left now) sink came
+reads_told laws place bytes mid r source left now sink came later wrote due reads =
+    let rest : (bytes ++ due.read) ++ reads.read ≡ bytes ++ (due.read ++ reads.read) = append_assoc bytes due.read reads.read in
+    record {
+      read = due.read ++ reads.read;
+      consumed = Consumes-trans source.old source.new left due.read reads.read due.consumed reads.consumed;
+      comes = subst (λ (l : List ℕ). Comes place l r (on source left now) sink came) rest
+          (comes_told laws place ((bytes ++ due.read) ++ reads.read) r (on source left now) sink came wrote
+          (laws.stays place (bytes ++ due.read) reads.read due.comes.0)
+          (later_fault place ((bytes ++ due.read) ++ reads.read) true r source.old source.new source.before
+          (record { old = source.new; new = left; before = source.now; now = now }) (Some came) later reads.comes));
+    }
+
+-- ---- how much is read on
+
+-- the law of what isn't whole
+abbrev pub ShortLaw : Type 0
+ShortLaw = (fed : Fed) → answer fed ≡ more → length fed.bytes < MESSAGE_LIMIT
+
+-- a reader that waits was fed less than a message more than at first
+pub waits_short : ShortLaw → (place : ℕ) (bytes : List ℕ) (told : Bool) (first r r' : RequestReader) (source : Course) → Stands first (fed_at place bytes told)
+    → (so_far : ReadSoFar place bytes told r source) → step_of (answer (fed_at place (bytes ++ so_far.read) told)) ≡ Ok More
+    → Stands r' (fed_after (fed_at place (bytes ++ so_far.read) told) (answer (fed_at place (bytes ++ so_far.read) told)))
+    → fed_count r' < fed_count first + MESSAGE_LIMIT
+waits_short law place bytes told first r r' source stands so_far is now =
+    let due = waits place (bytes ++ so_far.read) told r' is now in
+    let short : length (bytes ++ so_far.read) < MESSAGE_LIMIT = law (fed_at place (bytes ++ so_far.read) told) due.0 in
+    let before : fed_count first ≡ place + length bytes = count_of first (fed_at place bytes told) stands in
+    let after : fed_count r' ≡ place + length (bytes ++ so_far.read) = count_of r' (fed_at place (bytes ++ so_far.read) told) due.1 in
+    omega (arith, short, before, after)
+
+-- a piece is counted
+pub piece_counted : (place : ℕ) (bytes : List ℕ) (told : Bool) (r r' : RequestReader) (piece : List ℕ) → Stands r (fed_at place bytes told)
+    → Stands r' (fed_with (fed_at place bytes told) piece) → fed_count r' ≡ fed_count r + length piece
+piece_counted place bytes told r r' piece before after =
+    let a : fed_count r ≡ place + length bytes = count_of r (fed_at place bytes told) before in
+    let b : fed_count r' ≡ place + length (bytes ++ piece) = count_of r' (fed_at place (bytes ++ piece) told) after in
+    omega (arith, a, b, length-append bytes piece)
+
+-- what was read, and then the end of the input
+pub came_end : (place : ℕ) (bytes : List ℕ) (told : Bool) (r : RequestReader) (source : Course) (read : List ℕ) (result : Result (Unit {0}) WireFault) (came : Next)
+    → Consumes source.old source.new read → answer (fed_at place (bytes ++ read) told) ≡ more → IsAtEnd source.new
+    → finish_of (fed_at place (bytes ++ read) told) ≡ result → came ≡ ending result → ReadsOn place bytes told r source (Some came)
+came_end place bytes told r source read (Ok nothing) came consumed is end finish same = record {
+  read = read;
+  consumed = consumed;
+  comes = subst (λ (n : Next). ComesOn place (bytes ++ read) told r source (Some n)) (sym same) (is, end, finish);
+}
+came_end place bytes told r source read (Err f) came consumed is end finish same = record {
+  read = read;
+  consumed = consumed;
+  comes = subst (λ (n : Next). ComesOn place (bytes ++ read) told r source (Some n)) (sym same) (inr (is, end, finish));
+}
+
+-- reading on comes nearer to its end
+pub nearer : (first before mid after : ℕ) (piece : List ℕ) → mid ≡ before → mid < first + MESSAGE_LIMIT → after ≡ mid + length piece → 0 < length piece
+    → first + most_read - after < first + most_read - before
+nearer first before mid after piece same short counted some = omega (arith, same, short, counted, some)
+
+-- where nothing more was read
+pub consumed_still : (a b c : Option (List ℕ)) (read piece : List ℕ) → Consumes a b read → Consumes b c piece → piece ≡ [] → Consumes a c read
+consumed_still a b c read piece first second none =
+    subst (Consumes a c) (ap (λ (l : List ℕ). read ++ l) none ∙ append-nil read) (Consumes-trans a b c read piece first second)
+
+pub laws_of : ((place : ℕ) (bytes after : List ℕ) → answer (fed_at place bytes false) ≡ interim → answer (fed_at place (bytes ++ after) false) ≡ interim)
+    → ((place : ℕ) (bytes : List ℕ) → (answer (fed_at place bytes false) ≡ interim) ⊎ (answer (fed_at place bytes true) ≡ answer (fed_at place bytes false)))
+    → ((place : ℕ) (bytes : List ℕ) (told : Bool) → answer (fed_at place bytes false) ≡ interim → finish_of (fed_at place bytes told) ≡ Err (fault_at Truncated (place + length bytes)))
+    → ((place : ℕ) (bytes : List ℕ) (m : RequestMessage) (next : ℕ) → (message_at place bytes ≡ Some (m, next)) ↔ BeginsWith place bytes m next)
+    → ((fed : Fed) (m : RequestMessage) (next : ℕ) → fed.fault ≡ None → BeginsWith fed.place fed.bytes m next
+    → answer fed ≡ cond (awaits m && not fed.told) interim (message m next)) → Laws
+laws_of stays told begun one spelled = record {
+  stays = stays;
+  told = told;
+  cut = λ place bytes due whole. let cut = sym (begun place bytes true due) ∙ whole in cc;
+  begins = λ place bytes m next. (one place bytes m next).0;
+  given = spelled;
+}

@@ -1,0 +1,87 @@
+-- What a connection writes is a function of what it reads.
+use Rattle.std.proofs.Common.{◌≡◌, ℕ, inl, inr, true, List, [], ◌∷◌, refl, sym, ap, ◌∙◌, subst}
+use Rattle.std.specs.List.{list_all}
+use Rattle.std.proofs.lemmas.Bool.{and_parts}
+use Rattle.rs_rules.specs.declared.request.Request.{Request}
+use Rattle.rs_rules.specs.Histories.{History, len, up_to, with_entries}
+use Rattle.rs_rules.specs.Answers.{answer, taken, entry_of}
+use Rattle.rs_rules.specs.Growth.{Grows}
+use Rattle.rs_wire.specs.declared.message.RequestMessage.{RequestMessage}
+use Rattle.rs_front.specs.declared.account.Account.{Account}
+use Rattle.rs_front.specs.declared.asked.Asked.{Asked}
+use Rattle.rs_front.specs.declared.asked.Asked.TheVariants.{Desk, Preflight, Refused}
+use Rattle.rs_front.specs.Requests.{asked_of}
+use Rattle.rs_front.specs.Due.{Users, Outcome, answered, unkept, plain, starved, is_whole, due, OthersStay, GoesOn, GoesAlong}
+use Rattle.rs_front.proofs.DueLemmas.{same_number}
+use Rattle.rs_front.proofs.SettleLemmas.{still_at_front}
+
+-- what a turn of a desk that is alone leaves of its user's history
+abbrev after : (old : History) (quota me : ℕ) → Request → History
+after old quota me r = with_entries old (entry_of me (taken old quota r))
+
+grown_is : (old new : History) (quota me : ℕ) (r : Request) (n : ℕ) → Grows old new quota me r (answer (up_to n new) quota r) n → n ≡ len old
+    → new ≡ after old quota me r
+grown_is old new quota me r n grows front =
+    grows.added ∙ ap (λ (h : History). with_entries h (entry_of me (taken h quota r))) (still_at_front old new n grows.before front)
+
+-- a user's history, and the others', are those of two ways to go on
+both_same : (user : ℕ) (old new later : ℕ → History) → new user ≡ later user → OthersStay user old new → OthersStay user old later → (other : ℕ) → new other ≡ later other
+both_same user old new later here others those other = elim (same_number other user) [
+  | inl same ↦ subst (λ (k : ℕ). new k ≡ later k) (sym same) here
+  | inr apart ↦ others other apart ∙ sym (those other apart)
+]
+
+-- one message, one way to go on
+goes_one : (users : Users) (asked : Asked) (o p : Outcome) (old new later : ℕ → History) → users.alone ≡ true → is_whole o ≡ true → is_whole p ≡ true
+    → GoesOn users asked o old new → GoesOn users asked p old later → (o ≡ p) × ((user : ℕ) → new user ≡ later user)
+goes_one users (Desk user r) (answered n) (answered k) old new later alone o p goes went =
+    let here : new user ≡ later user =
+    grown_is (old user) (new user) (users.quota user) (users.me user) r n goes.0 (goes.1 alone)
+    ∙ sym (grown_is (old user) (later user) (users.quota user) (users.me user) r k went.0 (went.1 alone)) in
+    (ap answered (goes.1 alone ∙ sym (went.1 alone)), both_same user old new later here goes.2 went.2)
+goes_one users (Desk user r) (answered n) unkept old new later alone o p goes went = cc
+goes_one users (Desk user r) (answered n) plain old new later alone o p goes went = absurd went
+goes_one users (Desk user r) (answered n) starved old new later alone o p goes went = cc
+goes_one users (Desk user r) unkept q old new later alone o p goes went = cc
+goes_one users (Desk user r) plain q old new later alone o p goes went = absurd goes
+goes_one users (Desk user r) starved q old new later alone o p goes went = cc
+goes_one users Preflight plain plain old new later alone o p goes went = (refl, λ user. goes user ∙ sym (went user))
+goes_one users Preflight plain (answered n) old new later alone o p goes went = absurd went
+goes_one users Preflight plain unkept old new later alone o p goes went = cc
+goes_one users Preflight plain starved old new later alone o p goes went = cc
+goes_one users Preflight (answered n) q old new later alone o p goes went = absurd goes
+goes_one users Preflight unkept q old new later alone o p goes went = cc
+goes_one users Preflight starved q old new later alone o p goes went = cc
+goes_one users (Refused refusal) plain plain old new later alone o p goes went = (refl, λ user. goes user ∙ sym (went user))
+goes_one users (Refused refusal) plain (answered n) old new later alone o p goes went = absurd went
+goes_one users (Refused refusal) plain unkept old new later alone o p goes went = cc
+goes_one users (Refused refusal) plain starved old new later alone o p goes went = cc
+goes_one users (Refused refusal) (answered n) q old new later alone o p goes went = absurd goes
+goes_one users (Refused refusal) unkept q old new later alone o p goes went = cc
+goes_one users (Refused refusal) starved q old new later alone o p goes went = cc
+
+along_one : (users : Users) (accounts : List Account) (ms : List RequestMessage) (os ps : List Outcome) (old now later : ℕ → History)
+    → users.alone ≡ true → list_all is_whole os ≡ true → list_all is_whole ps ≡ true
+    → GoesAlong users accounts ms os old now → GoesAlong users accounts ms ps old later → (os ≡ ps) × (now ≡ later)
+along_one users accounts [] [] [] old now later alone w v goes went = (refl, λ i user. (goes user ∙ sym (went user)) i)
+along_one users accounts [] [] (p ∷ ps) old now later alone w v goes went = absurd went
+along_one users accounts [] (o ∷ os) ps old now later alone w v goes went = absurd goes
+along_one users accounts (m ∷ ms) [] ps old now later alone w v goes went = absurd goes
+along_one users accounts (m ∷ ms) (o ∷ os) [] old now later alone w v goes went = absurd went
+along_one users accounts (m ∷ ms) (o ∷ os) (p ∷ ps) old now later alone w v goes went =
+    let first = and_parts (is_whole o) (list_all is_whole os) w in
+    let second = and_parts (is_whole p) (list_all is_whole ps) v in
+    let here = goes_one users (asked_of accounts m) o p old goes.0 went.0 alone first.0 second.0 goes.1 went.1 in
+    let middle : went.0 ≡ goes.0 = (λ i user. sym (here.1 user) i) in
+    let rest = along_one users accounts ms os ps goes.0 now later alone first.1 second.1 goes.2
+    (subst (λ (h : ℕ → History). GoesAlong users accounts ms ps h later) middle went.2) in
+    (λ i. here.0 i ∷ rest.0 i, rest.1)
+
+pub outputs_are_one : (users : Users) (accounts : List Account) (ms : List RequestMessage) (os ps : List Outcome) (old now later : ℕ → History)
+    → users.alone ≡ true → list_all is_whole os ≡ true → list_all is_whole ps ≡ true
+    → GoesAlong users accounts ms os old now → GoesAlong users accounts ms ps old later
+    → (os ≡ ps) × (now ≡ later)
+    × (due (record users { history = now }) accounts 0 ms os ≡ due (record users { history = later }) accounts 0 ms ps)
+outputs_are_one users accounts ms os ps old now later alone w v goes went =
+    let same = along_one users accounts ms os ps old now later alone w v goes went in
+    (same.0, same.1, λ i. due (record users { history = same.1 i }) accounts 0 ms (same.0 i))

@@ -1,0 +1,332 @@
+-- A connection, up to some number of messages, and its ends.
+use Rattle.std.proofs.Common.{◌≡◌, ℕ, ◌+◌, ◌-◌, ◌<◌, ◌≤◌, inl, inr, Bool, true, false, List, [], ◌∷◌, ◌++◌, Option, Some, Result, Ok, Err, length, take, drop, refl, sym, ap, subst, ◌∙◌, arith, append-nil, length-append}
+use Rattle.std.proofs.Math.Seq.{take-append-add, take-length}
+use Rattle.std.specs.Io.KnownBytes.{Consumes, Appends}
+use Rattle.rs_face.proofs.ToldLemmas.{Consumes-nil, Consumes-trans, Appends-nil, Appends-trans}
+use Rattle.rs_face.proofs.CauseLemmas.{Rose-later}
+use Rattle.rs_face.specs.Causes.{Rose, HasCause}
+use Rattle.rs_face.specs.Told.{AppendsFront}
+use Rattle.rs_face.specs.declared.sink.SinkFault.{SinkFault}
+use Rattle.rs_face.specs.declared.sink.SinkFault.TheVariants as fault
+use Rattle.rs_rules.specs.Histories.{History}
+use Rattle.rs_wire.specs.declared.fault.WireFault.{WireFault}
+use Rattle.rs_wire.specs.declared.message.RequestMessage.{RequestMessage}
+use Rattle.rs_wire.specs.declared.reader.RequestReader.{RequestReader}
+use Rattle.rs_wire.specs.Division.{message_at, Divides}
+use Rattle.rs_wire.specs.Laws.{fed_at}
+use Rattle.rs_wire.specs.Readers.{Stands}
+use Rattle.rs_front.specs.declared.account.Account.{Account}
+use Rattle.rs_front.specs.declared.input.Next.TheVariants as next
+use Rattle.rs_front.specs.declared.serve.End.{End}
+use Rattle.rs_front.specs.declared.serve.End.TheVariants.{Closed, Limit, ReadFault, NoMemory, BadMessage}
+use Rattle.rs_front.specs.Courses.{Course}
+use Rattle.rs_front.specs.Due.{Users, answer_of, answer_bytes, interim_of, message_bytes, due}
+use Rattle.rs_front.specs.Ends.{closes, IsOpen, Served, due_of, GoesFurther, IsTail, IsPartOf, EndsSo, Serves}
+use Rattle.rs_front.specs.FaultBytes.{fault_bytes}
+use Rattle.rs_front.specs.Inputs.{ReadsNext}
+use Rattle.rs_front.specs.Requests.{asked_of}
+use Rattle.rs_front.specs.ReplyBytes.{max_replies, manner_of, starved_bytes}
+use Rattle.rs_front.specs.Rests.{pending}
+use Rattle.rs_front.specs.Sending.{EndsWith, end_of}
+use Rattle.rs_front.specs.Settling.{RepliesTo}
+use Rattle.rs_front.proofs.DueLemmas.{at, along_push, due_more, faults_push}
+use Rattle.rs_front.proofs.InputLemmas.{on}
+
+-- ---- messages with one more
+
+closes_push : (ms : List RequestMessage) (m : RequestMessage) → closes (ms ++ m ∷ []) ≡ m.close
+closes_push [] m = refl
+closes_push (k ∷ []) m = refl
+closes_push (k ∷ l ∷ ms) m = closes_push (l ∷ ms) m
+
+open_push : (ms : List RequestMessage) (m : RequestMessage) → closes ms ≡ false → IsOpen ms → IsOpen (ms ++ m ∷ [])
+open_push [] m last open_ = tt
+open_push (k ∷ []) m last open_ = (last, tt)
+open_push (k ∷ l ∷ ms) m last open_ = (open_.0, open_push (l ∷ ms) m last open_.1)
+
+-- the laws of divisions
+abbrev pub GrowsLaw : Type 0
+GrowsLaw = (ms : List RequestMessage) (place : ℕ) (bytes after : List ℕ) (end : ℕ) (rest : List ℕ)
+    → Divides place bytes ms end rest → Divides place (bytes ++ after) ms end (rest ++ after)
+
+abbrev pub PushLaw : Type 0
+PushLaw = (ms : List RequestMessage) (m : RequestMessage) (place : ℕ) (bytes : List ℕ) (end : ℕ) (rest : List ℕ) (next : ℕ)
+    → Divides place bytes ms end rest → message_at end rest ≡ Some (m, next) → Divides place bytes (ms ++ m ∷ []) next (drop (next - end) rest)
+
+-- ---- so far
+
+-- so many messages were read and replied to, and none of them asks to close
+pub record SoFar (users : Users) (accounts : List Account) (source sink : Course) (old : ℕ → History) (before now : ℕ) (reader : RequestReader) (count : ℕ) : Type 0 where
+  pub served : Served users accounts source sink old before now
+  pub counted : length served.messages ≡ count
+  pub going : closes served.messages ≡ false
+  pub wrote_due : served.wrote ≡ due_of served
+  pub stands : Stands reader (fed_at served.place served.rest false)
+  pub source_later : source.before ≤ source.now
+  pub sink_later : sink.before ≤ sink.now
+
+-- nothing was read or written
+pub nothing_served : (quota me : ℕ → ℕ) (alone : Bool) (accounts : List Account) (old : ℕ → History) (reader : RequestReader) (left written : Option (List ℕ)) (n m k : ℕ)
+    → Stands reader (fed_at 0 [] false)
+    → SoFar (record { history = old; quota = quota; me = me; alone = alone }) accounts (record { old = left; new = left; before = n; now = n })
+    (record { old = written; new = written; before = m; now = m }) old k k reader 0
+nothing_served quota me alone accounts old reader left written n m k stands = record {
+  served = record {
+    read = [];
+    wrote = [];
+    messages = [];
+    outcomes = [];
+    place = 0;
+    rest = [];
+    consumed = Consumes-nil left;
+    appended = Appends-nil written;
+    division = (refl, refl);
+    along = λ user. refl;
+    unkept = omega arith;
+    few = omega arith;
+    open_so_far = tt;
+  };
+  counted = refl;
+  going = refl;
+  wrote_due = refl;
+  stands = stands;
+  source_later = omega arith;
+  sink_later = omega arith;
+}
+
+module _ (grows : GrowsLaw) (push : PushLaw) (users : Users) (accounts : List Account) (source sink : Course) (old : ℕ → History) (before now : ℕ) (reader : RequestReader) (count : ℕ)
+    (so_far : SoFar users accounts source sink old before now reader count) (free : count < max_replies) where
+  -- more may come
+  further : GoesFurther so_far.served.messages
+  further = let c = so_far.counted in (omega (arith, c, free), so_far.going)
+
+  -- the same once more was read and written
+  abbrev served_to : (left written : Option (List ℕ)) (n k : ℕ) (read all : List ℕ) → Consumes source.new left read → Appends sink.old written all
+      → Served users accounts (on source left n) (on sink written k) old before now
+  served_to left written n k read all consumed appended = record {
+    read = so_far.served.read ++ read;
+    wrote = all;
+    messages = so_far.served.messages;
+    outcomes = so_far.served.outcomes;
+    place = so_far.served.place;
+    rest = so_far.served.rest ++ read;
+    consumed = Consumes-trans source.old source.new left so_far.served.read read so_far.served.consumed consumed;
+    appended = appended;
+    division = grows so_far.served.messages 0 so_far.served.read read so_far.served.place so_far.served.rest so_far.served.division;
+    along = so_far.served.along;
+    unkept = so_far.served.unkept;
+    few = so_far.served.few;
+    open_so_far = so_far.served.open_so_far;
+  }
+
+  -- what was written so far, and then these bytes
+  wrote_more : (written : Option (List ℕ)) (bytes : List ℕ) → Appends sink.new written bytes → Appends sink.old written (so_far.served.wrote ++ bytes)
+  wrote_more written bytes wrote = Appends-trans sink.old sink.new written so_far.served.wrote bytes so_far.served.appended wrote
+
+  due_with : (bytes : List ℕ) → so_far.served.wrote ++ bytes ≡ due_of so_far.served ++ bytes
+  due_with bytes = ap (λ (l : List ℕ). l ++ bytes) so_far.wrote_due
+
+  -- ---- ends at which nothing more is written
+
+  pub ends_closed : (reader' : RequestReader) (left written : Option (List ℕ)) (n k : ℕ)
+      → ReadsNext so_far.served.place so_far.served.rest reader' (record { old = source.new; new = left; before = source.now; now = n })
+      (record { old = sink.new; new = written; before = sink.now; now = k }) next.End
+      → Serves users accounts (on source left n) (on sink written k) old before now Closed
+  ends_closed reader' left written n k reads = (
+    served_to left written n k reads.read (so_far.served.wrote ++ []) reads.consumed (wrote_more written [] reads.comes.3),
+    (append-nil so_far.served.wrote ∙ so_far.wrote_due, inr (further, reads.comes.1, reads.comes.0, reads.comes.2)),
+  )
+
+  pub ends_unread : (reader' : RequestReader) (left written : Option (List ℕ)) (n k : ℕ)
+      → ReadsNext so_far.served.place so_far.served.rest reader' (record { old = source.new; new = left; before = source.now; now = n })
+      (record { old = sink.new; new = written; before = sink.now; now = k }) next.NotRead
+      → Serves users accounts (on source left n) (on sink written k) old before now ReadFault
+  ends_unread reader' left written n k reads =
+      let tail = pending so_far.served.place (so_far.served.rest ++ reads.read) in (
+        served_to left written n k reads.read (so_far.served.wrote ++ tail) reads.consumed (wrote_more written tail reads.comes.2),
+        (Rose-later source.before source.now n so_far.source_later reads.comes.1, further, reads.comes.0, due_with tail),
+      )
+
+  -- a front of what may come was written
+  part_of : (left written : Option (List ℕ)) (n k : ℕ) (read tail : List ℕ) (consumed : Consumes source.new left read)
+      → IsTail (on source left n) so_far.served.place (so_far.served.rest ++ read) tail → AppendsFront sink.new written tail
+      → (served : Served users accounts (on source left n) (on sink written k) old before now) × IsPartOf served
+  part_of left written n k read tail consumed is_tail (many, front) =
+      let all = so_far.served.wrote ++ take many tail in
+      let is : all ≡ take (length so_far.served.wrote + many) (due_of so_far.served ++ tail) =
+      sym (take-append-add so_far.served.wrote tail many) ∙ ap (take (length so_far.served.wrote + many)) (due_with tail) in (
+        served_to left written n k read all consumed (wrote_more written (take many tail) front),
+        inr (further, (tail, is_tail, (length so_far.served.wrote + many, is))),
+      )
+
+  pub ends_unwritten : (reader' : RequestReader) (left written : Option (List ℕ)) (n k : ℕ) (why : SinkFault)
+      → ReadsNext so_far.served.place so_far.served.rest reader' (record { old = source.new; new = left; before = source.now; now = n })
+      (record { old = sink.new; new = written; before = sink.now; now = k }) (next.NotWritten why)
+      → Serves users accounts (on source left n) (on sink written k) old before now (end_of why)
+  ends_unwritten reader' left written n k fault.Failed reads =
+      let part = part_of left written n k reads.read (pending so_far.served.place (so_far.served.rest ++ reads.read)) reads.consumed (inl refl) reads.comes.0 in
+      (part.0, (Rose-later sink.before sink.now k so_far.sink_later (reads.comes.1 refl), part.1))
+  ends_unwritten reader' left written n k fault.NoMemory reads =
+      part_of left written n k reads.read (pending so_far.served.place (so_far.served.rest ++ reads.read)) reads.consumed (inl refl) reads.comes.0
+
+  -- ---- ends with a last reply
+
+  -- the last reply is written behind what was, or a front of it
+  ends_with : (left mid written : Option (List ℕ)) (n j k : ℕ) (read first last : List ℕ) (end said : End)
+      (consumed : Consumes source.new left read) → Appends sink.new mid first → sink.now ≤ j
+      → IsTail (on source left n) so_far.served.place (so_far.served.rest ++ read) (first ++ last)
+      → EndsWith mid written j k last end said
+      → ((appended : Appends sink.old written (so_far.served.wrote ++ (first ++ last)))
+      → EndsSo users accounts (on source left n) (on sink written k) old before now (served_to left written n k read (so_far.served.wrote ++ (first ++ last)) consumed appended) end)
+      → Serves users accounts (on source left n) (on sink written k) old before now said
+  ends_with left mid written n j k read first last end said consumed wrote later is_tail ends whole = elim ends [
+    | inl all ↦
+        let appended = wrote_more written (first ++ last) (Appends-trans sink.new mid written first last wrote all.0) in
+        subst (Serves users accounts (on source left n) (on sink written k) old before now) (sym all.1)
+        (served_to left written n k read (so_far.served.wrote ++ (first ++ last)) consumed appended, whole appended)
+    | inr front ↦
+        let appended : AppendsFront sink.new written (first ++ last) = (
+          length first + front.0.0,
+          subst (Appends sink.new written) (sym (take-append-add first last front.0.0)) (Appends-trans sink.new mid written first (take front.0.0 last) wrote front.0.1),
+        ) in
+        let part = part_of left written n k read (first ++ last) consumed is_tail appended in
+        elim front.1 [
+          | inl failed ↦
+              let rose : Rose sink.before k = Rose-later sink.before j k (let l = so_far.sink_later in omega (arith, l, later)) failed.1 in
+              subst (Serves users accounts (on source left n) (on sink written k) old before now) (sym failed.0) (part.0, (rose, part.1))
+          | inr wanted ↦ subst (Serves users accounts (on source left n) (on sink written k) old before now) (sym wanted) part
+        ]
+  ]
+
+  pub ends_bad : (reader' : RequestReader) (left mid written : Option (List ℕ)) (n j k : ℕ) (f : WireFault) (said : End)
+      → ReadsNext so_far.served.place so_far.served.rest reader' (record { old = source.new; new = left; before = source.now; now = n })
+      (record { old = sink.new; new = mid; before = sink.now; now = j }) (next.Bad f) → sink.now ≤ j
+      → EndsWith mid written j k (fault_bytes f.why) (BadMessage f) said
+      → Serves users accounts (on source left n) (on sink written k) old before now said
+  ends_bad reader' left mid written n j k f said reads later ends =
+      let tail = pending so_far.served.place (so_far.served.rest ++ reads.read) in
+      ends_with left mid written n j k reads.read tail (fault_bytes f.why) (BadMessage f) said reads.consumed reads.comes.1 later
+      (inr (inl (f, reads.comes.0, refl))) ends
+      (λ appended. (further, reads.comes.0, due_with (tail ++ fault_bytes f.why)))
+
+  -- a whole tail was written
+  whole_part : (left written : Option (List ℕ)) (n k : ℕ) (read tail : List ℕ) (consumed : Consumes source.new left read)
+      → IsTail (on source left n) so_far.served.place (so_far.served.rest ++ read) tail → (appended : Appends sink.old written (so_far.served.wrote ++ tail))
+      → IsPartOf (served_to left written n k read (so_far.served.wrote ++ tail) consumed appended)
+  whole_part left written n k read tail consumed is_tail appended = inr (
+    further,
+    (tail, is_tail, (length (due_of so_far.served ++ tail), due_with tail ∙ sym (take-length (due_of so_far.served ++ tail)))),
+  )
+
+  pub ends_starved : (reader' : RequestReader) (left mid written : Option (List ℕ)) (n j k : ℕ) (said : End)
+      → ReadsNext so_far.served.place so_far.served.rest reader' (record { old = source.new; new = left; before = source.now; now = n })
+      (record { old = sink.new; new = mid; before = sink.now; now = j }) next.NoMemory → sink.now ≤ j
+      → EndsWith mid written j k (starved_bytes true) NoMemory said
+      → Serves users accounts (on source left n) (on sink written k) old before now said
+  ends_starved reader' left mid written n j k said reads later ends = elim reads.comes [
+    | inl none ↦ ends_with left mid written n j k reads.read [] (starved_bytes true) NoMemory said reads.consumed none later
+        (inr (inr (inl refl))) ends (whole_part left written n k reads.read (starved_bytes true) reads.consumed (inr (inr (inl refl))))
+    | inr told ↦
+        let tail = pending so_far.served.place (so_far.served.rest ++ reads.read) in
+        ends_with left mid written n j k reads.read tail (starved_bytes true) NoMemory said reads.consumed told later
+        (inr (inr (inr refl))) ends (whole_part left written n k reads.read (tail ++ starved_bytes true) reads.consumed (inr (inr (inr refl))))
+  ]
+
+  -- ---- a message
+
+  module _ (new : ℕ → History) (faults : ℕ) (reader' : RequestReader) (left mid written : Option (List ℕ)) (n j k : ℕ) (m : RequestMessage)
+      (reads : ReadsNext so_far.served.place so_far.served.rest reader' (record { old = source.new; new = left; before = source.now; now = n })
+      (record { old = sink.new; new = mid; before = sink.now; now = j }) (next.Message m)) where
+    -- what the reply says of the message, whether it was written or not
+    abbrev Replied : {A E : Type 0} → Result A E → Type 0
+    Replied result = RepliesTo (at users new) accounts count m users.history now faults mid written result
+
+    abbrev bytes_of : {A E : Type 0} (result : Result A E) → Replied result → List ℕ
+    bytes_of result replied = interim_of m ++ answer_bytes (manner_of count m) (answer_of (at users new) (asked_of accounts m) replied.outcome)
+
+    abbrev pushed : {A E : Type 0} (result : Result A E) (replied : Replied result) (all : List ℕ) → Appends sink.old written all
+        → Served (at users new) accounts (on source left n) (on sink written k) old before faults
+    pushed result replied all appended = record {
+      read = so_far.served.read ++ reads.read;
+      wrote = all;
+      messages = so_far.served.messages ++ m ∷ [];
+      outcomes = so_far.served.outcomes ++ replied.outcome ∷ [];
+      place = reads.comes.0;
+      rest = drop (reads.comes.0 - so_far.served.place) (so_far.served.rest ++ reads.read);
+      consumed = Consumes-trans source.old source.new left so_far.served.read reads.read so_far.served.consumed reads.consumed;
+      appended = appended;
+      division = push so_far.served.messages m 0 (so_far.served.read ++ reads.read) so_far.served.place (so_far.served.rest ++ reads.read) reads.comes.0
+          (grows so_far.served.messages 0 so_far.served.read reads.read so_far.served.place so_far.served.rest so_far.served.division) reads.comes.1;
+      along = along_push users users.history new accounts so_far.served.messages so_far.served.outcomes m replied.outcome old so_far.served.along replied.goes_on;
+      unkept = faults_push so_far.served.outcomes replied.outcome before now faults so_far.served.unkept replied.unkept;
+      few = let c = so_far.counted in omega (arith, c, free, length-append so_far.served.messages (m ∷ []));
+      open_so_far = open_push so_far.served.messages m so_far.going so_far.served.open_so_far;
+    }
+
+    -- what is due with this message
+    due_now : {A E : Type 0} (result : Result A E) (replied : Replied result)
+        → so_far.served.wrote ++ bytes_of result replied ≡ due (at users new) accounts 0 (so_far.served.messages ++ m ∷ []) (so_far.served.outcomes ++ replied.outcome ∷ [])
+    due_now result replied =
+        due_with (bytes_of result replied)
+        ∙ sym (due_more users users.history new accounts so_far.served.messages so_far.served.outcomes m replied.outcome old so_far.served.along replied.goes_on
+        ∙ ap (λ c. due_of so_far.served ++ message_bytes (at users new) accounts c m replied.outcome) so_far.counted)
+
+    pub served_more : {A E : Type 0} (x : A) → Replied {A = A} {E = E} (Ok x) → m.close ≡ false → source.now ≤ n → sink.now ≤ k
+        → SoFar (at users new) accounts (on source left n) (on sink written k) old before faults reader' (count + 1)
+    served_more {A} {E} x replied open_ source_later sink_later =
+        let wrote = Appends-trans sink.new mid written (interim_of m) (answer_bytes (manner_of count m) (answer_of (at users new) (asked_of accounts m) replied.outcome)) reads.comes.3 replied.writes in
+        record {
+          served = pushed {A = A} {E = E} (Ok x) replied (so_far.served.wrote ++ bytes_of {A = A} {E = E} (Ok x) replied) (wrote_more written (bytes_of {A = A} {E = E} (Ok x) replied) wrote);
+          counted = let c = so_far.counted in omega (arith, c, length-append so_far.served.messages (m ∷ []));
+          going = closes_push so_far.served.messages m ∙ open_;
+          wrote_due = due_now {A = A} {E = E} (Ok x) replied;
+          stands = reads.comes.2;
+          source_later = let l = so_far.source_later in omega (arith, l, source_later);
+          sink_later = let l = so_far.sink_later in omega (arith, l, sink_later);
+        }
+
+    pub ends_asked : {A E : Type 0} (x : A) → Replied {A = A} {E = E} (Ok x) → m.close ≡ true
+        → Serves (at users new) accounts (on source left n) (on sink written k) old before faults Closed
+    ends_asked {A} {E} x replied close =
+        let wrote = Appends-trans sink.new mid written (interim_of m) (answer_bytes (manner_of count m) (answer_of (at users new) (asked_of accounts m) replied.outcome)) reads.comes.3 replied.writes in (
+          pushed {A = A} {E = E} (Ok x) replied (so_far.served.wrote ++ bytes_of {A = A} {E = E} (Ok x) replied) (wrote_more written (bytes_of {A = A} {E = E} (Ok x) replied) wrote),
+          (due_now {A = A} {E = E} (Ok x) replied, inl (closes_push so_far.served.messages m ∙ close)),
+        )
+
+    -- its reply couldn't be written
+    pub ends_unreplied : {A : Type 0} (why : SinkFault) → Replied {A = A} {E = SinkFault} (Err why) → HasCause {A = A} j k fault.Failed (Err why) → sink.now ≤ j
+        → Serves (at users new) accounts (on source left n) (on sink written k) old before faults (end_of why)
+    ends_unreplied {A} why replied cause later =
+        let reply = answer_bytes (manner_of count m) (answer_of (at users new) (asked_of accounts m) replied.outcome) in
+        let many = length (interim_of m) + replied.writes.0 in
+        let wrote : Appends sink.new written (take many (bytes_of {A = A} {E = SinkFault} (Err why) replied)) =
+        subst (Appends sink.new written) (sym (take-append-add (interim_of m) reply replied.writes.0))
+        (Appends-trans sink.new mid written (interim_of m) (take replied.writes.0 reply) reads.comes.3 replied.writes.1) in
+        let all = so_far.served.wrote ++ take many (bytes_of {A = A} {E = SinkFault} (Err why) replied) in
+        let is : all ≡ take (length so_far.served.wrote + many) (due (at users new) accounts 0 (so_far.served.messages ++ m ∷ []) (so_far.served.outcomes ++ replied.outcome ∷ [])) =
+        sym (take-append-add so_far.served.wrote (bytes_of {A = A} {E = SinkFault} (Err why) replied) many)
+        ∙ ap (take (length so_far.served.wrote + many)) (due_now {A = A} {E = SinkFault} (Err why) replied) in
+        let served = pushed {A = A} {E = SinkFault} (Err why) replied all (wrote_more written (take many (bytes_of {A = A} {E = SinkFault} (Err why) replied)) wrote) in
+        by_why why served (inl (length so_far.served.wrote + many, is)) cause
+      where
+        by_why : (why : SinkFault) (served : Served (at users new) accounts (on source left n) (on sink written k) old before faults)
+            → IsPartOf served → HasCause {A = A} j k fault.Failed (Err why)
+            → Serves (at users new) accounts (on source left n) (on sink written k) old before faults (end_of why)
+        by_why fault.Failed served part cause =
+            (served, (Rose-later sink.before j k (let l = so_far.sink_later in omega (arith, l, later)) (cause.failed refl), part))
+        by_why fault.NoMemory served part cause = (served, part)
+
+-- as many as are served
+pub ends_limit : (users : Users) (accounts : List Account) (source sink : Course) (old : ℕ → History) (before now : ℕ) (reader : RequestReader) (count : ℕ)
+    → SoFar users accounts source sink old before now reader count → count ≡ max_replies → Serves users accounts source sink old before now Limit
+ends_limit users accounts source sink old before now reader count so_far all = (so_far.served, (so_far.counted ∙ all, so_far.going, so_far.wrote_due))
+
+-- what a reply says of users holds where their quotas, numbers and desk are the same
+pub replies_as : (h : ℕ → History) (quota quota' me me' : ℕ → ℕ) (alone alone' : Bool) (accounts : List Account) (count : ℕ) (m : RequestMessage) (old : ℕ → History)
+    (before now : ℕ) (written written' : Option (List ℕ)) {A E : Type 0} (result : Result A E) → quota ≡ quota' → me ≡ me' → alone ≡ alone'
+    → RepliesTo (record { history = h; quota = quota; me = me; alone = alone }) accounts count m old before now written written' result
+    → RepliesTo (record { history = h; quota = quota'; me = me'; alone = alone' }) accounts count m old before now written written' result
+replies_as h quota quota' me me' alone alone' accounts count m old before now written written' result a b c replied =
+    let same : ◌≡◌ {A = Users} (record { history = h; quota = quota; me = me; alone = alone }) (record { history = h; quota = quota'; me = me'; alone = alone' }) =
+    (λ i. record { history = h; quota = a i; me = b i; alone = c i }) in
+    subst (λ (u : Users). RepliesTo u accounts count m old before now written written' result) same replied

@@ -1,0 +1,59 @@
+-- A message decided: what its outcome is.
+use Rattle.std.specs.Prelude.{◌≡◌, ℕ, ⊤, true, List, [], ◌∷◌, ◌++◌, Option, Some, Result, Ok, Err}
+use Rattle.rs_rules.specs.Histories.{History}
+use Rattle.rs_rules.specs.Requests.{is_within_limit}
+use Rattle.rs_wire.specs.declared.message.RequestMessage.{RequestMessage}
+use Rattle.rs_front.specs.declared.account.Account.{Account}
+use Rattle.rs_front.specs.declared.answer.Answer.{Answer}
+use Rattle.rs_front.specs.declared.asked.Asked.{Asked}
+use Rattle.rs_front.specs.declared.asked.Asked.TheVariants.{Desk, Preflight, Refused}
+use Rattle.rs_front.specs.declared.manner.Manner.{Manner}
+use Rattle.rs_front.specs.declared.reply.Written.{Written}
+use Rattle.rs_front.specs.ReplyBytes.{manner_of}
+use Rattle.rs_front.specs.Requests.{asked_of}
+use Rattle.rs_front.specs.Sending.{Writes}
+use Rattle.rs_front.specs.Due.{Users, Outcome, starved, answer_of, answer_bytes, GoesOn, HasFaults}
+
+-- the user that is asked is served
+abbrev pub IsServed : (ℕ → Type 0) → Asked → Type 0
+IsServed serves (Desk user r) = serves user
+IsServed serves Preflight = ⊤
+IsServed serves (Refused refusal) = ⊤
+
+-- the body that a Put brings is within the limit
+abbrev pub IsShort : Asked → Type 0
+IsShort (Desk user r) = is_within_limit r ≡ true
+IsShort Preflight = ⊤
+IsShort (Refused refusal) = ⊤
+
+-- the outcome has this answer, or memory was wanted
+abbrev pub IsAnswer : {E : Type 0} → Users → Asked → Outcome → Result Answer E → Type 0
+IsAnswer users asked outcome (Ok answer) = answer_of users asked outcome ≡ Some answer
+IsAnswer users asked outcome (Err e) = outcome ≡ starved
+
+-- what was asked has an outcome, by which the histories went on from the old ones to those of the users
+pub record Decides {E : Type 0} (users : Users) (asked : Asked) (old : ℕ → History) (before now : ℕ) (result : Result Answer E) : Type 0 where
+  pub outcome : Outcome
+  pub goes_on : GoesOn users asked outcome old users.history
+  pub unkept : HasFaults (outcome ∷ []) before now
+  pub answer : IsAnswer users asked outcome result
+
+-- the bytes of the reply are those that the outcome gives, or memory was wanted
+abbrev pub IsWritten : {E : Type 0} → Users → Manner → Asked → Outcome → Result Written E → Type 0
+IsWritten users manner asked outcome (Ok written) = written.head.items ++ written.body ≡ answer_bytes manner (answer_of users asked outcome)
+IsWritten users manner asked outcome (Err e) = outcome ≡ starved
+
+-- what was asked has an outcome, by which the histories went on from the old ones to those of the users, and whose bytes were made
+pub record Settles {E : Type 0} (users : Users) (manner : Manner) (asked : Asked) (old : ℕ → History) (before now : ℕ) (result : Result Written E) : Type 0 where
+  pub outcome : Outcome
+  pub goes_on : GoesOn users asked outcome old users.history
+  pub unkept : HasFaults (outcome ∷ []) before now
+  pub written : IsWritten users manner asked outcome result
+
+-- the reply was written that the outcome gives, after so many others, or a front of it where the sink failed or couldn't grow
+pub record RepliesTo {A E : Type 0} (users : Users) (accounts : List Account) (count : ℕ) (m : RequestMessage) (old : ℕ → History)
+    (before now : ℕ) (written written' : Option (List ℕ)) (result : Result A E) : Type 0 where
+  pub outcome : Outcome
+  pub goes_on : GoesOn users (asked_of accounts m) outcome old users.history
+  pub unkept : HasFaults (outcome ∷ []) before now
+  pub writes : Writes written written' (answer_bytes (manner_of count m) (answer_of users (asked_of accounts m) outcome)) result

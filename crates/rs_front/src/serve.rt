@@ -1,0 +1,147 @@
+//! One connection served whole.
+
+ghost use Rattle.std.specs.Prelude.{◌≡◌, ◌<◌, ◌≤◌, ◌++◌, ℕ, length};
+ghost use Rattle.rs_rules.specs.Histories.{History};
+ghost use Rattle.rs_wire.specs.Readers.{Stands};
+ghost use Rattle.rs_wire.specs.Readings.{unfed};
+ghost use Rattle.rs_front.specs.Ends.{Serves};
+ghost use Rattle.rs_front.specs.FaultBytes.{fault_bytes};
+ghost use Rattle.rs_front.specs.Sending.{EndsWith, end_of};
+
+use crate::account::Config;
+use crate::fixed::{fault_line, fault_rest, starved_bytes};
+use crate::input::{Next, next_message};
+use crate::manner::MAX_REPLIES;
+use crate::sending::send;
+use crate::settling::reply_to;
+use rs_face::{Sink, SinkFault, Source};
+use rs_rules::Desk;
+use rs_wire::{RequestReader, WireFault, one_division, unfinished_requests};
+use std::alloc::Global;
+
+/// How a connection ended.
+#[derive(Clone, Copy, Debug, PartialEq, Eq)]
+pub enum End {
+    /// The input ended between two messages, or the last message asked to close.
+    Closed,
+    /// 1,000 messages were replied to, and the last didn't ask to close.
+    Limit,
+    /// The source failed.
+    ReadFault,
+    /// The sink failed.
+    WriteFault,
+    /// Memory was wanted for reading, or by the sink.
+    NoMemory,
+    /// Bytes that are no request; the reply was written, none where the input was cut short.
+    BadMessage { fault: WireFault },
+}
+
+/// Serves the messages of a connection over a desk: reads them from the source and writes the due bytes to the sink, in order
+/// and nothing else, up to the end of the connection.
+///
+/// Due of each message are the interim reply, where its sender waits for one (RFC 9110, section 10.1.1), and its reply. Each
+/// answer is that of its user's one history at a point of it, on from the answer before. Where memory is wanted the fixed 503 is
+/// due, the message has taken nothing, and serving goes on; a 500 says that the desk's count of faults rose. Behind the messages
+/// the reply to bytes that are no request is due, or the 503 that closes where reading wants memory. After 1,000 replies, and
+/// after one to a message that asks to close (RFC 9112, section 9.6), the input isn't looked at any more.
+///
+/// The desk serves the user of each account, whose number is its place in the list. Over a desk that waits for nobody, and
+/// objects that do, the call returns.
+pub fn serve_stream<S: Source, W: Sink, D: Desk>(
+    alloc: Global,
+    config: &Config,
+    source: &mut S,
+    sink: &mut W,
+    desk: &mut D,
+) -> End
+    requires served { (user : ℕ) → user < length config.now.accounts → D.serves desk.old user }
+    ensures serves { (old : ℕ → History) → ((user : ℕ) → user < length config.now.accounts → D.stands desk.old user (old user))
+        → (now : ℕ → History) × ((user : ℕ) → user < length config.now.accounts → D.stands desk.new user (now user))
+        × Serves (record { history = now; quota = D.quota desk.old; me = D.me desk.old; alone = D.alone desk.old }) config.now.accounts
+        (record { old = S.left source.old; new = S.left source.new; before = S.faults source.old; now = S.faults source.new })
+        (record { old = W.written sink.old; new = W.written sink.new; before = W.faults sink.old; now = W.faults sink.new })
+        old (D.faults desk.old) (D.faults desk.new) result }
+    ensures users { (user : ℕ) → D.serves desk.old user → D.serves desk.new user }
+    ensures later { D.faults desk.old ≤ D.faults desk.new }
+    ensures is_later { D.is_later desk.old desk.new }
+{
+    let mut reader = RequestReader::new(alloc);
+    serve_messages(alloc, config, &mut reader, source, sink, desk)
+}
+
+// Serves the messages of a source of which nothing was read.
+fn serve_messages<S: Source, W: Sink, D: Desk>(
+    alloc: Global,
+    config: &Config,
+    reader: &mut RequestReader,
+    source: &mut S,
+    sink: &mut W,
+    desk: &mut D,
+) -> End
+    requires served { (user : ℕ) → user < length config.now.accounts → D.serves desk.old user }
+    requires fresh { Stands reader.old unfed }
+    ensures serves { (old : ℕ → History) → ((user : ℕ) → user < length config.now.accounts → D.stands desk.old user (old user))
+        → (now : ℕ → History) × ((user : ℕ) → user < length config.now.accounts → D.stands desk.new user (now user))
+        × Serves (record { history = now; quota = D.quota desk.old; me = D.me desk.old; alone = D.alone desk.old }) config.now.accounts
+        (record { old = S.left source.old; new = S.left source.new; before = S.faults source.old; now = S.faults source.new })
+        (record { old = W.written sink.old; new = W.written sink.new; before = W.faults sink.old; now = W.faults sink.new })
+        old (D.faults desk.old) (D.faults desk.new) result }
+    ensures users { (user : ℕ) → D.serves desk.old user → D.serves desk.new user }
+    ensures later { D.faults desk.old ≤ D.faults desk.new }
+    ensures is_later { D.is_later desk.old desk.new }
+{
+    one_division();
+    unfinished_requests();
+    'serving: for count in 0..MAX_REPLIES {
+        let message = match next_message(reader, source, sink) {
+            Next::Message(message) => message,
+            Next::End => return End::Closed,
+            Next::Bad(fault) => return end_at_fault(sink, fault),
+            Next::NotRead => return End::ReadFault,
+            Next::NoMemory => return end_with(sink, starved_bytes(true), &[], End::NoMemory),
+            Next::NotWritten(fault) => return end_of(fault),
+        };
+        let close = message.close;
+        if let Err(fault) = reply_to(alloc, config, desk, message, count, sink) {
+            return end_of(fault);
+        }
+        if close {
+            return End::Closed;
+        }
+    }
+    End::Limit
+}
+
+// Writes the reply to bytes that are no request.
+fn end_at_fault<W: Sink>(sink: &mut W, fault: WireFault) -> End
+    ensures ends { EndsWith (W.written sink.old) (W.written sink.new) (W.faults sink.old) (W.faults sink.new) (fault_bytes fault.why) (End.BadMessage fault) result }
+    ensures later { W.faults sink.old ≤ W.faults sink.new }
+{
+    end_with(
+        sink,
+        fault_line(fault.why),
+        fault_rest(fault.why),
+        End::BadMessage { fault },
+    )
+}
+
+// Writes the last reply; the end is that one, or says that the reply couldn't be written.
+fn end_with<W: Sink>(sink: &mut W, head: &[u8], rest: &[u8], end: End) -> End
+    ensures ends { EndsWith (W.written sink.old) (W.written sink.new) (W.faults sink.old) (W.faults sink.new) (head.now ++ rest.now) end result }
+    ensures later { W.faults sink.old ≤ W.faults sink.new }
+{
+    match send(sink, head, rest) {
+        Ok(()) => end,
+        Err(fault) => end_of(fault),
+    }
+}
+
+// How a connection ends whose reply couldn't be written.
+fn end_of(fault: SinkFault) -> End
+    ensures end { result ≡ end_of fault }
+{
+    match fault {
+        SinkFault::Failed => End::WriteFault,
+        SinkFault::NoMemory => End::NoMemory,
+    }
+}
