@@ -2,10 +2,15 @@
 //! standard error, and ends with the status's code.
 #![tactic(auto)]
 
+mod entropy;
+mod rows;
 mod streams;
 mod words;
 
-use rs_cli::{Note, Status, run_here};
+use entropy::OsEntropy;
+use rows::{close_rows, open_rows};
+use rs_cli::{Note, Status, needs_rows, run_here};
+use rs_face::{Keeper, NoFailKeeper, NoMemory};
 use std::alloc::Global;
 use std::io::Write;
 use std::process::ExitCode;
@@ -13,18 +18,51 @@ use streams::{StdSink, StdSource};
 use words::read_words;
 
 fn main(rt: HostRuntime) -> ExitCode {
-    let mut source = StdSource::new(rt.stdin());
-    let mut sink = StdSink::new(rt.stdout());
     let status = match read_words(&rt, rt.alloc()) {
-        Ok(words) => run_here(rt.alloc(), words.as_slice(), &mut source, &mut sink),
-        Err(_) => Note::NoMemory.status(),
+        Ok(words) => run(&rt, words.as_slice()),
+        Err(NoMemory) => Note::NoMemory.status(),
     };
-    report(rt.alloc(), status, &mut rt.stderr());
+    report(rt.alloc(), &status, &mut rt.stderr());
     ExitCode::from(status.code)
 }
 
+/// Does what the words say over the file of rows. Words that want no rows don't open it, so that it isn't made.
+fn run(rt: &HostRuntime, words: &[String]) -> Status {
+    match needs_rows(rt.alloc(), words) {
+        Ok(true) => run_over_file(rt, words),
+        Ok(false) => run_over(rt, words, &mut NoFailKeeper::new(Vec::new(rt.alloc()))),
+        Err(NoMemory) => Note::NoMemory.status(),
+    }
+}
+
+fn run_over_file(rt: &HostRuntime, words: &[String]) -> Status {
+    match open_rows(rt) {
+        Ok(mut keeper) => {
+            let status = run_over(rt, words, &mut keeper);
+            close_rows(keeper);
+            status
+        }
+        Err(note) => note.status(),
+    }
+}
+
+/// Does what the words say over the standard streams, the system's random bytes and this keeper.
+fn run_over<K: Keeper>(rt: &HostRuntime, words: &[String], keeper: &mut K) -> Status {
+    let mut source = StdSource::new(rt.stdin());
+    let mut sink = StdSink::new(rt.stdout());
+    let mut entropy = OsEntropy::new(rt);
+    run_here(
+        rt.alloc(),
+        words,
+        &mut source,
+        &mut sink,
+        keeper,
+        &mut entropy,
+    )
+}
+
 /// Writes what is said about a status other than 0 to the standard error stream. Where this fails, the code alone tells.
-fn report<W: Write>(alloc: Global, status: Status, stream: &mut W) {
+fn report<W: Write>(alloc: Global, status: &Status, stream: &mut W) {
     if status.code == 0 {
         return;
     }

@@ -1,10 +1,10 @@
--- Writing a reply.
+-- Writing in two parts.
 use Rattle.std.proofs.Common.{ℕ, List, [], ◌++◌, Option, Result, Ok, Err, length, min, sym, ◌∙◌, subst, arith, append-nil}
 use Rattle.std.proofs.lemmas.List.{take_min, take-append-le}
 use Rattle.std.specs.Io.KnownBytes.{Appends, Keeps}
 use Rattle.rs_face.proofs.ToldLemmas.{Appends-kept, AppendsFront-whole}
 use Rattle.rs_face.specs.Told.{AppendsFront}
-use Rattle.rs_cli.specs.Sending.{Writes}
+use Rattle.rs_cli.specs.Asking.{Writes}
 
 -- a front of some bytes is one of more
 pub AppendsFront-longer : (a b : Option (List ℕ)) (bytes more : List ℕ) → AppendsFront a b bytes → AppendsFront a b (bytes ++ more)

@@ -1,23 +1,31 @@
 //! The top calls of `rs`: the commands, over objects of the outside.
 #![tactic(auto)]
 
-mod call;
-mod fields;
-mod head;
-mod input;
-pub mod laws;
-mod path;
-mod reply;
+mod asking;
+mod command;
+mod forms;
+mod granting;
+mod note;
+mod number;
+mod printing;
 mod run;
-mod search;
-mod serve;
+mod serving;
 mod status;
-mod store;
-mod token;
-mod words;
+mod texts;
 
-pub use run::run_here;
-pub use status::{Note, Status};
+pub use note::Note;
+pub use run::{needs_rows, run_here};
+pub use status::Status;
 
 #[cfg(test)]
-mod tests;
+mod command_tests;
+#[cfg(test)]
+mod exchanges;
+#[cfg(test)]
+mod granting_tests;
+#[cfg(test)]
+mod message_tests;
+#[cfg(test)]
+mod outside_tests;
+#[cfg(test)]
+mod storage_tests;

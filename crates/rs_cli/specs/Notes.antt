@@ -1,0 +1,37 @@
+-- What is said at the end of a command.
+use Rattle.std.specs.Prelude.{ℕ, List, [], ◌++◌, codes, decimal}
+use Rattle.rs_scope.specs.Tokens.{token_text}
+use Rattle.rs_cli.specs.declared.note.Note.{Note}
+use Rattle.rs_cli.specs.declared.note.Note.TheVariants.{Empty, Word, KeeperFailed, NoMemory, NotThere, RowAt, RowUnlawful, SinkFailed, SourceFailed, Limit, EntropyFailed, TokenTaken, Message}
+
+-- the code that a note's status has
+abbrev pub code_of : Note → ℕ
+code_of Empty = 0
+code_of (Word index) = 2
+code_of KeeperFailed = 3
+code_of NoMemory = 5
+code_of NotThere = 8
+code_of (RowAt index place) = 10
+code_of (RowUnlawful index) = 10
+code_of SinkFailed = 11
+code_of SourceFailed = 12
+code_of Limit = 14
+code_of EntropyFailed = 17
+code_of (TokenTaken token) = 17
+code_of (Message place) = 18
+
+-- what is said about a status
+unfoldable pub note_text : Note → List ℕ
+note_text Empty = []
+note_text (Word index) = codes "word " ++ decimal index
+note_text KeeperFailed = codes "keeper failed"
+note_text NoMemory = codes "no memory"
+note_text NotThere = codes "not there"
+note_text (RowAt index place) = codes "row " ++ (decimal index ++ (codes " at " ++ decimal place))
+note_text (RowUnlawful index) = codes "row " ++ (decimal index ++ codes " unlawful")
+note_text SinkFailed = codes "sink failed"
+note_text SourceFailed = codes "source failed"
+note_text Limit = codes "limit"
+note_text EntropyFailed = codes "entropy failed"
+note_text (TokenTaken token) = codes "token taken " ++ token_text token
+note_text (Message place) = codes "message at " ++ decimal place

@@ -1,0 +1,38 @@
+//! Commands.
+
+use rs_scope::{Scopes, Token};
+
+/// Whom `pipe` serves, and which token with which scopes.
+#[derive(Debug, Drop)]
+pub struct Serving<'a> {
+    pub user: &'a [u8],
+    pub token: Token,
+    pub scopes: Scopes,
+    pub quota: u64,
+}
+
+/// What the words of a command line ask for.
+#[derive(Debug, Drop)]
+pub enum Command<'a> {
+    /// `pipe USER TOKEN SCOPES [QUOTA]`: grants the token these scopes where it isn't granted, and serves the source to the
+    /// sink. The quota is in bytes, and 1,073,741,824 where none is given.
+    Pipe { serving: Serving<'a> },
+    /// `grant SCOPES`: grants a token of two random words these scopes, and prints it.
+    Grant { scopes: Scopes },
+    /// `revoke TOKEN`: takes the token's scopes away.
+    Revoke { token: Token },
+    /// `--help`: prints the forms of the words.
+    Help,
+    /// `--version`: prints the program's version.
+    Version,
+}
+
+/// Why words are no command.
+#[derive(Debug, Clone, Copy, PartialEq, Eq)]
+pub enum WordFault {
+    /// The index, counted from 0, of the first word with which no form goes on; the number of words where they begin a
+    /// form and none ends there.
+    Word { index: u64 },
+    /// Memory ran out.
+    NoMemory,
+}

@@ -1,0 +1,142 @@
+//! Words read as commands, as a table.
+
+use crate::command::{Command, WordFault};
+use crate::forms::read_command;
+use rs_path::NoMemory;
+use std::alloc::Global;
+use std::process::Abort;
+use std::test::Fail;
+
+const TOKEN: &str = "000102030405060708090a0b0c0d0e0f";
+
+/// The words of a row, parted by `|`; none where the row is empty.
+fn words_of(alloc: Global, row: &str) -> Result<Vec<String>, NoMemory> {
+    let mut words = Vec::new(alloc);
+    if row.is_empty() {
+        return Ok(words);
+    }
+    for text in row.split('|') {
+        words.push(String::from_str(alloc, text)?)?;
+    }
+    Ok(words)
+}
+
+/// Sees that the words are wrong at the index.
+fn is_wrong(rt: &impl Abort, alloc: Global, row: &str, index: u64) -> Result<(), Fail> {
+    let words = words_of(alloc, row)?;
+    match read_command(alloc, words.as_slice()) {
+        Err(fault) => assert_eq!(rt; fault, WordFault::Word { index }),
+        Ok(_) => Err("a command")?,
+    }
+    Ok(())
+}
+
+/// The index of the first wrong word, and words, which are parted by `|`.
+const WRONG: &str = r#"
+0 pear
+0 grants
+1 grant
+1 grant|notes
+1 grant|
+2 grant|notes:rw|x
+1 revoke
+1 revoke|T
+1 revoke|000102030405060708090A0B0C0D0E0F
+2 revoke|000102030405060708090a0b0c0d0e0f|
+1 --help|x
+1 --version|--help
+1 pipe
+1 pipe|Alice
+1 pipe||000102030405060708090a0b0c0d0e0f|*:rw
+1 pipe|a23456789012345678901234567890123
+2 pipe|alice
+2 pipe|a2345678901234567890123456789012|T
+2 pipe|alice|T
+3 pipe|alice|000102030405060708090a0b0c0d0e0f
+3 pipe|alice|000102030405060708090a0b0c0d0e0f|x
+4 pipe|alice|000102030405060708090a0b0c0d0e0f|*:rw|x
+4 pipe|alice|000102030405060708090a0b0c0d0e0f|*:rw|
+4 pipe|alice|000102030405060708090a0b0c0d0e0f|*:rw|007
+4 pipe|alice|000102030405060708090a0b0c0d0e0f|*:rw|+7
+4 pipe|alice|000102030405060708090a0b0c0d0e0f|*:rw|18446744073709551616
+4 pipe|alice|000102030405060708090a0b0c0d0e0f|*:rw|100000000000000000000
+5 pipe|alice|000102030405060708090a0b0c0d0e0f|*:rw|7|8
+"#;
+
+#[test]
+fn wrong_words(rt: HostRuntime) -> Result<(), Fail> {
+    is_wrong(&rt, rt.alloc(), "", 0)?;
+    for row in WRONG.trim().split('\n') {
+        let (index, words) = row.split_once(' ').ok_or("no words")?;
+        is_wrong(&rt, rt.alloc(), words, index.parse::<u64>()?)?;
+    }
+    Ok(())
+}
+
+/// Sees that the words are a `pipe` with this quota.
+fn has_quota(rt: &impl Abort, alloc: Global, row: &str, wanted: u64) -> Result<(), Fail> {
+    let words = words_of(alloc, row)?;
+    match &read_command(alloc, words.as_slice()) {
+        Ok(Command::Pipe { serving }) => {
+            assert_eq!(rt; serving.user, b"alice".as_slice());
+            assert_eq!(rt; serving.token.digits().as_slice(), TOKEN.as_bytes());
+            assert_eq!(rt; serving.quota, wanted);
+        }
+        _ => Err("no pipe")?,
+    }
+    Ok(())
+}
+
+#[test]
+fn pipes(rt: HostRuntime) -> Result<(), Fail> {
+    let alloc = rt.alloc();
+    let pipe = "pipe|alice|000102030405060708090a0b0c0d0e0f|*:rw";
+    has_quota(&rt, alloc, pipe, 1_073_741_824)?;
+    let pipe = "pipe|alice|000102030405060708090a0b0c0d0e0f| notes:r  *:rw|0";
+    has_quota(&rt, alloc, pipe, 0)?;
+    let pipe = "pipe|alice|000102030405060708090a0b0c0d0e0f|*:rw|18446744073709551615";
+    has_quota(&rt, alloc, pipe, u64::MAX)
+}
+
+#[test]
+fn a_grant(rt: HostRuntime) -> Result<(), Fail> {
+    let words = words_of(rt.alloc(), "grant|notes:rw")?;
+    let mut text = Vec::new(rt.alloc());
+    match &read_command(rt.alloc(), words.as_slice()) {
+        Ok(Command::Grant { scopes }) => scopes.write(&mut text)?,
+        _ => Err("no grant")?,
+    }
+    assert_eq!(rt; text.as_slice(), b"notes:rw".as_slice());
+    Ok(())
+}
+
+#[test]
+fn a_revocation(rt: HostRuntime) -> Result<(), Fail> {
+    let words = words_of(rt.alloc(), "revoke|000102030405060708090a0b0c0d0e0f")?;
+    match &read_command(rt.alloc(), words.as_slice()) {
+        Ok(Command::Revoke { token }) => {
+            assert_eq!(rt; token.digits().as_slice(), TOKEN.as_bytes());
+        }
+        _ => Err("no revoke")?,
+    }
+    Ok(())
+}
+
+#[test]
+fn words_that_stand_alone(rt: HostRuntime) -> Result<(), Fail> {
+    let help = words_of(rt.alloc(), "--help")?;
+    let version = words_of(rt.alloc(), "--version")?;
+    assert!(rt;
+        matches!(
+            &read_command(rt.alloc(), help.as_slice()),
+            Ok(Command::Help)
+        )
+    );
+    assert!(rt;
+        matches!(
+            &read_command(rt.alloc(), version.as_slice()),
+            Ok(Command::Version)
+        )
+    );
+    Ok(())
+}
