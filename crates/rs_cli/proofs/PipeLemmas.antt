@@ -5,7 +5,7 @@ use Rattle.rs_rules.specs.Contents.{Contents}
 use Rattle.rs_rules.specs.Histories.{History, IsFront}
 use Rattle.rs_wire.specs.declared.message.RequestMessage.{RequestMessage}
 use Rattle.rs_user.specs.declared.state.UserState.{UserState}
-use Rattle.rs_user.specs.Turns.{Spells}
+use Rattle.rs_user.specs.Openings.{Spells}
 use Rattle.rs_front.proofs.DueLemmas.{front_refl, front_trans, goes_later}
 use Rattle.rs_front.specs.declared.account.Account.{Account}
 use Rattle.rs_front.specs.declared.serve.End.{End}

@@ -14,7 +14,7 @@ use Rattle.rs_rules.specs.Histories.{History, with_entries}
 use Rattle.rs_rules.specs.Answers.{record_of, entry_of}
 use Rattle.rs_user.specs.declared.state.UserState.{UserState}
 use Rattle.rs_user.specs.Standing.{StandsFor}
-use Rattle.rs_user.specs.Turns.{Spells}
+use Rattle.rs_user.specs.Openings.{Spells}
 use Rattle.rs_cli.specs.declared.note.Note.{Note}
 use Rattle.rs_cli.specs.declared.note.Note.TheVariants as note
 use Rattle.rs_cli.specs.Grants.{Course, Failed, IsSame, SpelledBy, NotOpened, Has, Refused, Revokes, NotRevoked, Draws, DrawsFew, Grants, GivesUp}

@@ -10,7 +10,7 @@ use Rattle.rs_rules.specs.Tokens.{scopes_of}
 use Rattle.rs_rules.specs.Answers.{answer}
 use Rattle.rs_user.specs.declared.state.UserState.{UserState}
 use Rattle.rs_user.specs.Standing.{StandsFor}
-use Rattle.rs_user.specs.Turns.{Spells}
+use Rattle.rs_user.specs.Openings.{Spells}
 use Rattle.rs_front.specs.declared.account.Account.{Account}
 use Rattle.rs_front.specs.declared.serve.End.{End}
 use Rattle.rs_front.specs.declared.serve.End.TheVariants as end
@@ -60,7 +60,8 @@ note_of_end end.WriteFault = note.SinkFailed
 note_of_end end.NoMemory = note.NoMemory
 note_of_end (end.BadMessage f) = note.Message f.place
 
--- a connection over the user's history, which goes on from `first`; the rows are in the end those of its last state
+-- a connection over the user's history, which goes on from `first`; in the end the rows are those of its last state, and are
+-- opened as that
 pub record Pipes (user : List ℕ) (first : History) (quota : ℕ) (rows : Course (List (List ℕ))) (source sink : Course (List ℕ)) (note : Note) : Type 0 where
   pub histories : ℕ → History
   pub end : End

@@ -3,6 +3,7 @@
 ghost use Rattle.std.specs.Prelude.{◌≡◌, ◌≤◌, IfOk, OnOk};
 ghost use Rattle.rs_rules.specs.Histories.{History};
 ghost use Rattle.rs_user.specs.Standing.{StandsFor};
+ghost use Rattle.rs_user.specs.Openings.{Spells};
 ghost use Rattle.rs_cli.specs.Asking.{Opened, IsAbout, Asks, after_request, note_of_opening, note_of_reply};
 
 use crate::note::Note;
@@ -59,6 +60,8 @@ pub fn ask<T: Tree, K: Keeper>(
         (record { old = K.rows keeper.old; new = K.rows keeper.new; before = K.faults keeper.old; now = K.faults keeper.new })
         result }
     ensures stands { (h : History) → StandsFor T.stands state.old h → OnOk result (StandsFor T.stands state.new (after_request h request.now)) }
+    ensures spells { (h : History) → StandsFor T.stands state.old h
+        → OnOk result (Spells (K.rows keeper.old) h → Spells (K.rows keeper.new) (after_request h request.now)) }
     ensures count { K.row_count keeper.new ≡ state.new.rows }
     ensures quota { state.new.quota ≡ state.old.quota }
     ensures later { K.faults keeper.old ≤ K.faults keeper.new }

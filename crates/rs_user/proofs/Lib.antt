@@ -1,6 +1,7 @@
 mod FrontLemmas
 mod GrantLemmas
 mod MayLemmas
+mod SpellingLemmas
 pub mod OpeningLemmas
 mod StandingLemmas
 mod StepLemmas

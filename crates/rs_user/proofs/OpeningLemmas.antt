@@ -14,20 +14,21 @@ use Rattle.rs_rules.specs.Histories.{History, start, empty_base, with_entry}
 use Rattle.rs_rules.specs.Contents.{Contents}
 use Rattle.rs_user.specs.declared.state.UserState.{UserState}
 use Rattle.rs_user.specs.Standing.{StandsFor}
-use Rattle.rs_user.specs.Turns.{rows_of}
-use Rattle.rs_user.specs.Openings.{may_be_next, with_reading, ◌>>=◌, opening_from, opening, Opened, Opens, TakesRow}
+use Rattle.rs_user.proofs.SpellingLemmas.{nobody_more}
+use Rattle.rs_user.specs.Openings.{may_be_next, with_reading, ◌>>=◌, opening_from, opening, rows_of, by_nobody, Opened, Opens, TakesRow}
 
 -- the rows before the index are opened as the history
 pub record IsUnderWay (index : ℕ) (h : History) (kept : List (List ℕ)) : Type 0 where
   pub left : opening kept ≡ opening_from index h (drop index kept)
   pub rows : kept ≡ rows_of h ++ drop index kept
+  pub nobody : h ≡ by_nobody h
 
 -- the history and the record that was read
 abbrev pub and_read : History → Record → History
 and_read h what = with_entry h (record { who = 0; what = what })
 
 pub starts : (kept : List (List ℕ)) → IsUnderWay 0 (start empty_base) kept
-starts kept = record { left = refl; rows = refl }
+starts kept = record { left = refl; rows = refl; nobody = refl }
 
 -- what is left begins with the row
 left_of : (kept : List (List ℕ)) (index : ℕ) (row : List ℕ) → slice_get kept index ≡ Some row → drop index kept ≡ row ∷ drop (index + 1) kept
@@ -50,6 +51,7 @@ goes_on index h kept row what found reads spelled may before =
           ∙ ap (λ now. now >>= λ after. opening_from (index + 1) after rest) (cond-true (may_be_next h what) (Ok (and_read h what)) (Err (Unlawful index)) may);
       rows = before.rows ∙ ap (λ more. rows_of h ++ more) (begins ∙ ap (λ first. first ∷ rest) spelled)
           ∙ sym (ap (λ rows. rows ++ rest) (rows_more h what) ∙ append_assoc (rows_of h) (spelling what ∷ []) rest);
+      nobody = ap (λ (x : History). and_read x what) before.nobody ∙ nobody_more h 0 what;
     }
 
 pub is_bad : (index place : ℕ) (h : History) (kept : List (List ℕ)) (row : List ℕ) → slice_get kept index ≡ Some row
@@ -93,7 +95,10 @@ module _ {T R : Type 0} (tree_stands : T → Contents → Type 0) where
       record {
         history = h;
         spelled = before.left ∙ ap (opening_from index h) none;
-        rows = before.rows ∙ ap (λ rest. rows_of h ++ rest) none ∙ append-nil (rows_of h);
+        rows = (
+          before.rows ∙ ap (λ rest. rows_of h ++ rest) none ∙ append-nil (rows_of h),
+          before.left ∙ ap (opening_from index h) none ∙ ap Ok before.nobody,
+        );
         stands = stands;
       }
 

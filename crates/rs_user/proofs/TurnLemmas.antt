@@ -1,12 +1,9 @@
 -- What a kept record, and a reply that adds none, are for a turn.
-use Rattle.std.proofs.Common.{◌≡◌, ℕ, Bool, true, false, List, [], ◌∷◌, ◌++◌, Option, Some, None, Result, Ok, Err, refl, sym, ap, ◌∙◌, subst, append-nil}
+use Rattle.std.proofs.Common.{◌≡◌, ℕ, Bool, true, false, List, [], Option, Some, None, Result, Ok, Err, refl, sym, ap, ◌∙◌, subst, append-nil}
 use Rattle.rs_face.specs.Rows.{with_rows}
-use Rattle.std.proofs.lemmas.List.{map-append}
 use Rattle.rs_record.specs.declared.records.Record.{Record}
-use Rattle.rs_record.specs.Rows.{spelling}
 use Rattle.rs_rules.specs.declared.desk.DeskFault.{DeskFault}
 use Rattle.rs_rules.specs.declared.desk.DeskFault.TheVariants.{NoMemory}
-use Rattle.rs_rules.specs.declared.log_entry.LogEntry.{LogEntry}
 use Rattle.rs_rules.specs.declared.reply.Reply.{Reply}
 use Rattle.rs_rules.specs.declared.request.Request.{Request}
 use Rattle.rs_rules.specs.declared.turn.Turn.{Turn}
@@ -16,7 +13,9 @@ use Rattle.rs_rules.specs.Answers.{answer, taken, entry_of, record_of}
 use Rattle.rs_rules.specs.Growth.{is_store_failed, GrowsByOthers, Grows, Failed, Turned, TurnedBy}
 use Rattle.rs_user.specs.declared.state.UserState.{UserState}
 use Rattle.rs_user.specs.Standing.{StandsFor}
-use Rattle.rs_user.specs.Turns.{row_of, rows_of, Spells, Keeps, KeepsBy, Turns, AnswersBy, Answered}
+use Rattle.rs_user.proofs.SpellingLemmas.{spells_more}
+use Rattle.rs_user.specs.Openings.{Spells}
+use Rattle.rs_user.specs.Turns.{row_of, Keeps, KeepsBy, Turns, AnswersBy, Answered}
 
 with_none : (told : Option (List (List ℕ))) → with_rows told [] ≡ told
 with_none None = refl
@@ -38,6 +37,8 @@ module _ {T R : Type 0} (tree_stands : T → Contents → Type 0) where
         front = kept.front;
         stands = subst (λ o. StandsFor tree_stands state (with_entries h (entry_of who o))) (sym added) kept.stands;
         rows = kept.rows ∙ ap (λ o. with_rows old (row_of o)) (sym added);
+        spells = λ spells. subst (λ o. Spells new (with_entries h (entry_of who o))) (sym added)
+            (spells_more old new h who what kept.rows kept.back kept.stands.lawful spells);
       }
 
   -- the request's record was kept
@@ -57,6 +58,7 @@ module _ {T R : Type 0} (tree_stands : T → Contents → Type 0) where
     front = front;
     stands = subst (λ o. StandsFor tree_stands state (with_entries h (entry_of who o))) (sym adds) (subst (StandsFor tree_stands state) (same_entries h) stands);
     rows = sym (ap (λ o. with_rows told (row_of o)) adds ∙ with_none told);
+    spells = λ spells. subst (λ o. Spells told (with_entries h (entry_of who o))) (sym adds) (subst (Spells told) (same_entries h) spells);
   }
 
   -- the request adds no record
@@ -71,17 +73,6 @@ module _ {T R : Type 0} (tree_stands : T → Contents → Type 0) where
 nothing : (h : History) → GrowsByOthers h h 1 → Failed h h 1 true
 nothing h still = record { others = still; still = λ alone. refl }
 
-rows_with : (h : History) (who : ℕ) (o : Option Record) → rows_of (with_entries h (entry_of who o)) ≡ rows_of h ++ row_of o
-rows_with h who None = map-append (λ (e : LogEntry). spelling e.what) h.entries []
-rows_with h who (Some what) = map-append (λ (e : LogEntry). spelling e.what) h.entries (record { who = who; what = what } ∷ [])
-
-spells_more : (old new : Option (List (List ℕ))) (h : History) (who : ℕ) (o : Option Record) → new ≡ with_rows old (row_of o) → Spells old h
-    → Spells new (with_entries h (entry_of who o))
-spells_more None new h who o is spells = subst (λ told. Spells told (with_entries h (entry_of who o))) (sym is) spells
-spells_more (Some rows) new h who o is spells =
-    let more : rows ++ row_of o ≡ rows_of (with_entries h (entry_of who o)) = ap (λ kept. kept ++ row_of o) spells ∙ sym (rows_with h who o) in
-    subst (λ told. Spells told (with_entries h (entry_of who o))) (sym is) more
-
 module _ {T R : Type 0} (tree_stands : T → Contents → Type 0) where
   sits_by : (failed : Bool) (state : UserState T R) (h : History) (quota user : ℕ) (r : Request) (turn : Turn) (old new : Option (List (List ℕ))) (before now : ℕ)
       → user ≡ 0 → Spells old h → AnswersBy tree_stands failed state h quota 1 r turn old new before now
@@ -94,7 +85,7 @@ module _ {T R : Type 0} (tree_stands : T → Contents → Type 0) where
   )
   sits_by false state h quota user r turn old new before now zero spells answers still grows = (
     with_entries h (entry_of 1 (taken h quota r)),
-    (zero, answers.stands, spells_more old new h 1 (taken h quota r) answers.rows spells),
+    (zero, answers.stands, answers.spells spells),
     record {
       grows = subst (λ front. Grows h (with_entries h (entry_of 1 (taken h quota r))) quota 1 r turn.reply front) (sym answers.front)
           (subst (λ reply. Grows h (with_entries h (entry_of 1 (taken h quota r))) quota 1 r reply (len h)) (sym answers.reply) grows);

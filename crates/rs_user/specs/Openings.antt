@@ -1,10 +1,11 @@
 -- What rows are opened as.
-use Rattle.std.specs.Prelude.{◌≡◌, ℕ, ◌+◌, Bool, true, false, ◌&&◌, nat_lt, List, [], ◌∷◌, Result, Ok, Err, if◌then◌else◌}
+use Rattle.std.specs.Prelude.{◌≡◌, ℕ, ◌+◌, Bool, true, false, ◌&&◌, nat_lt, List, [], ◌∷◌, map, Option, IfSome, Result, Ok, Err, if◌then◌else◌}
 use Rattle.rs_record.specs.declared.record_fault.RecordFault.{RecordFault}
 use Rattle.rs_record.specs.declared.record_fault.RecordFault.TheVariants.{Bad, NoMemory as NoMemoryToRead}
 use Rattle.rs_record.specs.declared.records.Record.{Record}
 use Rattle.rs_record.specs.Rows.{spelling}
 use Rattle.rs_record.specs.RowReadings.{record_reading}
+use Rattle.rs_rules.specs.declared.log_entry.LogEntry.{LogEntry}
 use Rattle.rs_rules.specs.declared.open_fault.OpenFault.{OpenFault}
 use Rattle.rs_rules.specs.declared.open_fault.OpenFault.TheVariants.{BadRow, Unlawful, KeeperFailed, NoMemory}
 use Rattle.rs_rules.specs.Limits.{max_len}
@@ -14,7 +15,6 @@ use Rattle.rs_rules.specs.Snapshots.{snapshot}
 use Rattle.rs_rules.specs.Lawful.{may_follow}
 use Rattle.rs_user.specs.declared.state.UserState.{UserState}
 use Rattle.rs_user.specs.Standing.{StandsFor}
-use Rattle.rs_user.specs.Turns.{rows_of}
 
 -- some request adds the record to the history: there is room for it, and it stands rightly
 abbrev pub may_be_next : History → Record → Bool
@@ -43,12 +43,30 @@ opening_from index h (row ∷ rows) = with_reading index h (record_reading row) 
 abbrev pub opening : List (List ℕ) → Result History OpenFault
 opening rows = opening_from 0 (start empty_base) rows
 
+-- ---- the rows of a history
+
+-- the rows of a history since its cut
+abbrev pub rows_of : History → List (List ℕ)
+rows_of h = map (λ (e : LogEntry). spelling e.what) h.entries
+
+-- the history, of which isn't known who made its entries
+abbrev pub by_nobody : History → History
+by_nobody h = record { base = h.base; entries = map (λ (e : LogEntry). record { who = 0; what = e.what }) h.entries }
+
+-- the rows are those of the history, and are opened as it
+abbrev pub AreRows : List (List ℕ) → History → Type 0
+AreRows rows h = (rows ≡ rows_of h) × (opening rows ≡ Ok (by_nobody h))
+
+-- the told rows are those of the history
+abbrev pub Spells : Option (List (List ℕ)) → History → Type 0
+Spells told h = IfSome told (λ rows. AreRows rows h)
+
 module _ {T R : Type 0} (tree_stands : T → Contents → Type 0) where
   -- the state stands for the history that the rows spell
   pub record Opened (state : UserState T R) (kept : List (List ℕ)) : Type 0 where
     pub history : History
     pub spelled : opening kept ≡ Ok history
-    pub rows : kept ≡ rows_of history
+    pub rows : AreRows kept history
     pub stands : StandsFor tree_stands state history
 
   -- the rows were opened, or refused at the first row that is wrong, or they could not be read, or memory ran out

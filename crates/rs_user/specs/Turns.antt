@@ -1,5 +1,5 @@
 -- What a turn has done to a state and to its rows.
-use Rattle.std.specs.Prelude.{◌≡◌, ℕ, Bool, true, false, List, [], ◌∷◌, map, Option, Some, None, IfSome, Result, Ok, Err}
+use Rattle.std.specs.Prelude.{◌≡◌, ℕ, Bool, true, false, List, [], ◌∷◌, Option, Some, None, Result, Ok, Err}
 use Rattle.rs_face.specs.Causes.{Rose}
 use Rattle.rs_face.specs.Rows.{with_row, with_rows}
 use Rattle.rs_face.specs.declared.keeper.KeepFault.{KeepFault}
@@ -7,10 +7,10 @@ use Rattle.rs_face.specs.declared.keeper.KeepFault.TheVariants.{Failed, NoMemory
 use Rattle.rs_record.specs.declared.records.Record.{Record}
 use Rattle.rs_record.specs.declared.records.Record.TheVariants.{Put, Remove}
 use Rattle.rs_record.specs.Rows.{spelling}
+use Rattle.rs_record.specs.RowReadings.{record_reading}
 use Rattle.rs_rules.specs.declared.call.Call.{Call}
 use Rattle.rs_rules.specs.declared.desk.DeskFault.{DeskFault}
 use Rattle.rs_rules.specs.declared.desk.DeskFault.TheVariants.{NoMemory}
-use Rattle.rs_rules.specs.declared.log_entry.LogEntry.{LogEntry}
 use Rattle.rs_rules.specs.declared.reply.Reply.{Reply}
 use Rattle.rs_rules.specs.declared.reply.Reply.TheVariants.{StoreFailed}
 use Rattle.rs_rules.specs.declared.request.Request.{Request}
@@ -21,6 +21,7 @@ use Rattle.rs_rules.specs.Answers.{answer, taken, entry_of, token_of}
 use Rattle.rs_rules.specs.Growth.{is_store_failed}
 use Rattle.rs_user.specs.declared.state.UserState.{UserState}
 use Rattle.rs_user.specs.Standing.{StandsFor}
+use Rattle.rs_user.specs.Openings.{Spells}
 
 -- the record of a Put and of a Delete
 abbrev pub put_of : Call → Record
@@ -41,14 +42,6 @@ abbrev pub row_of : Option Record → List (List ℕ)
 row_of None = []
 row_of (Some what) = spelling what ∷ []
 
--- the rows of a history since its cut
-abbrev pub rows_of : History → List (List ℕ)
-rows_of h = map (λ (e : LogEntry). spelling e.what) h.entries
-
--- the told rows are those of the history
-abbrev pub Spells : Option (List (List ℕ)) → History → Type 0
-Spells told h = IfSome told (λ rows. rows ≡ rows_of h)
-
 module _ {T R : Type 0} (tree_stands : T → Contents → Type 0) where
   -- the state stands for the history that it stood for, and the told rows are as before
   pub record IsStill (state : UserState T R) (h : History) (old new : Option (List (List ℕ))) : Type 0 where
@@ -67,6 +60,7 @@ module _ {T R : Type 0} (tree_stands : T → Contents → Type 0) where
     pub front : turn.front ≡ len h
     pub stands : StandsFor tree_stands state (with_entry h (record { who = who; what = what }))
     pub rows : new ≡ with_row old (spelling what)
+    pub back : record_reading (spelling what) ≡ Ok what
 
   abbrev pub KeepsBy : Bool → UserState T R → History → ℕ → Record → Reply → Turn → Option (List (List ℕ)) → Option (List (List ℕ)) → ℕ → ℕ → Type 0
   KeepsBy true state h who what reply turn old new before now = NotKept state h old new before now
@@ -79,13 +73,15 @@ module _ {T R : Type 0} (tree_stands : T → Contents → Type 0) where
       KeepsBy (is_store_failed turn.reply) state h who what reply turn old new before now
 
   -- the request was answered: the reply is the history's answer, the front its length; the state stands for the history and
-  -- the record that was taken, and the told rows have this record's row behind the others, and no other new one
+  -- the record that was taken, and the told rows have this record's row behind the others, and no other new one. Rows that
+  -- were those of the history are those of what it is now
   pub record Answered (state : UserState T R) (h : History) (quota who : ℕ) (r : Request) (turn : Turn)
       (old new : Option (List (List ℕ))) : Type 0 where
     pub reply : turn.reply ≡ answer h quota r
     pub front : turn.front ≡ len h
     pub stands : StandsFor tree_stands state (with_entries h (entry_of who (taken h quota r)))
     pub rows : new ≡ with_rows old (row_of (taken h quota r))
+    pub spells : Spells old h → Spells new (with_entries h (entry_of who (taken h quota r)))
 
   abbrev pub AnswersBy : Bool → UserState T R → History → ℕ → ℕ → Request → Turn → Option (List (List ℕ)) → Option (List (List ℕ)) → ℕ → ℕ → Type 0
   AnswersBy true state h quota who r turn old new before now = NotKept state h old new before now

@@ -2,6 +2,7 @@
 
 ghost use Rattle.std.specs.Prelude.{◌≡◌, ◌+◌, ◌<◌, ◌≤◌, ℕ, true, false};
 ghost use Rattle.rs_record.specs.declared.records.Record.TheVariants.{Grant as GrantRecord, Revoke as RevokeRecord};
+ghost use Rattle.rs_record.specs.Records.{has_parts};
 ghost use Rattle.rs_rules.specs.declared.reply.Reply.TheVariants.{Stored, Removed, Granted as GrantedReply, Revoked};
 ghost use Rattle.rs_rules.specs.Limits.{max_len};
 ghost use Rattle.rs_rules.specs.Histories.{History, len};
@@ -14,7 +15,7 @@ ghost use Rattle.rs_user.specs.Turns.{put_of, remove_of, Keeps, TellsFault};
 use crate::granted::Granted;
 use crate::state::UserState;
 use rs_face::{KeepFault, Keeper};
-use rs_record::{Record, encode, encode_put};
+use rs_record::{Record, encode, encode_put, row_laws};
 use rs_rules::{Call, DeskFault, Pass, Reply, Tree, Turn, lawful_laws};
 use rs_scope::{Scopes, Token};
 
@@ -34,6 +35,8 @@ impl<T: Tree> UserState<T> {
         ensures quota { self.new.quota ≡ self.old.quota }
     {
         lawful_laws();
+        row_laws();
+        look_at(call);
         let mut row = Vec::new(*self.granted.allocator());
         encode_put(
             &call.path,
@@ -157,6 +160,17 @@ impl<T: Tree> UserState<T> {
             }
             Err(fault) => not_kept(fault, front),
         }
+    }
+}
+
+// Reads nothing: it says what the types of a call's parts promise.
+fn look_at(call: &Call)
+    ensures parts { has_parts (put_of call.now) ≡ true }
+{
+    call.path.names();
+    call.kind.as_slice();
+    if let Pass::Known(token) = &call.pass {
+        token.as_bytes();
     }
 }
 

@@ -33,7 +33,7 @@ impl<'a, K: Keeper, T: Tree> Desk for SoloDesk<'a, K, T> {
     ghost use Rattle.std.proofs.Common.{◌∙◌};
     ghost use Rattle.rs_rules.specs.Histories.{History};
     ghost use Rattle.rs_user.specs.Standing.{StandsFor};
-    ghost use Rattle.rs_user.specs.Turns.{Spells};
+    ghost use Rattle.rs_user.specs.Openings.{Spells};
 
     ghost serves = { λ desk user. (user ≡ 0) × (K.row_count desk.keeper.now ≡ desk.state.now.rows)
         × ((h : History) × StandsFor T.stands desk.state.now h) };
