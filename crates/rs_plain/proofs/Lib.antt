@@ -6,4 +6,5 @@ pub mod ListLemmas
 pub mod ChildLemmas
 pub mod ItemLemmas
 pub mod EntryLemmas
-pub mod FollowLemmas
+pub mod FirstLemmas
+mod FollowLemmas

@@ -130,6 +130,30 @@ put_written p n k b ds ws all =
     list_all-append (λ (d : Placed). is_written (written p n ws) d.path) (others p ds) (placed n p k b ∷ [])
     ∙ and_from _ _ (others_written p n ds ws all) (and_from _ _ (written_itself p n ws) refl)
 
+-- ---- a path that was never written
+
+neither : (a b : Bool) → (a || b) ≡ false → (a ≡ false) × (b ≡ false)
+neither true b is = absurd (true≢false is)
+neither false b is = (refl, is)
+
+pub unwritten_writes : (p : Path) (ws : List Write) → is_written ws p ≡ false → other_writes p ws ≡ ws
+unwritten_writes p [] never = refl
+unwritten_writes p (w ∷ ws) never =
+    let parts = neither (same_path p w.path) (is_written ws p) never in
+    cond-true (not (same_path p w.path)) (w ∷ other_writes p ws) (other_writes p ws) (ap not parts.0)
+    ∙ ap (λ rest. w ∷ rest) (unwritten_writes p ws parts.1)
+
+pub unwritten_docs : (p : Path) (ds : List Placed) (ws : List Write) → are_written ds ws ≡ true → is_written ws p ≡ false → others p ds ≡ ds
+unwritten_docs p [] ws all never = refl
+unwritten_docs p (d ∷ ds) ws all never =
+    let parts = and_parts (is_written ws d.path) (are_written ds ws) all in
+    ⊎_elim
+    (λ same. absurd (true≢false (sym parts.0 ∙ sym (ap (is_written ws) (same_from p d.path same)) ∙ never)))
+    (λ other.
+    cond-true (not (same_path p d.path)) (d ∷ others p ds) (others p ds) (ap not other)
+    ∙ ap (λ rest. d ∷ rest) (unwritten_docs p ds ws parts.1 never))
+    (cases_Bool (same_path p d.path))
+
 -- ---- the sum of the lengths of the bodies
 
 pub live-others : (p : Path) (ds : List Placed) → live_in (others p ds) ≤ live_in ds

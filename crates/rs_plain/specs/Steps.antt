@@ -1,5 +1,5 @@
 -- Steps from a folder towards paths.
-use Rattle.std.specs.Prelude.{ℕ, Bool, false, not, List, Option, Some, None}
+use Rattle.std.specs.Prelude.{ℕ, Bool, false, not, ◌||◌, List, Option, Some, None}
 use Rattle.std.specs.Borrow.{Bor}
 use Rattle.std.specs.List.{list_any}
 use Rattle.rs_path.specs.declared.child.Child.{Child}
@@ -24,3 +24,8 @@ is_seen folder docs child = list_any (λ (d : Placed). is_to child (child_toward
 abbrev pub is_fresh : Path → List Placed → Option Child → Bool
 is_fresh folder docs None = false
 is_fresh folder docs (Some child) = not (is_seen folder docs child)
+
+-- the step is to a document, or to a folder with no document below it
+abbrev pub is_first : Path → List Placed → Option Child → Bool
+is_first folder docs None = false
+is_first folder docs (Some child) = not child.folder || not (is_seen folder docs child)

@@ -1,23 +1,26 @@
 //! Folders at their limit.
 
-ghost use Rattle.std.specs.Prelude.{◌≡◌, length};
-ghost use Rattle.rs_path.specs.Paths.{folder_at};
+ghost use Rattle.std.specs.Prelude.{◌≡◌, ◌≤◌, List, length};
+ghost use Rattle.rs_path.specs.Paths.{Path as PathValue, folder_at};
 ghost use Rattle.rs_path.specs.Children.{child_towards};
 ghost use Rattle.rs_rules.specs.Clashes.{full_in, is_full};
 ghost use Rattle.rs_rules.specs.Contents.{paths_in};
 ghost use Rattle.rs_rules.specs.Listings.{children};
-ghost use Rattle.rs_plain.specs.Steps.{is_to, is_seen, is_fresh};
+ghost use Rattle.rs_rules.specs.Sound.{AreDistinct};
+ghost use Rattle.rs_plain.specs.Steps.{is_to, is_seen, is_fresh, is_first};
 
 use crate::steps::step_towards;
-use rs_path::{Name, Path};
+use rs_path::{Name, Path, child_laws};
 use rs_rules::Placed;
 
 /// The greatest number of items of a folder.
 const MAX_ITEMS: usize = 50000;
 
 /// The number of names of the first folder, from `/` down, that has no room for a document at the path.
+///
+/// It holds of documents of which no two have one path.
 pub(crate) fn full_in(docs: &[Placed], path: &Path) -> Option<u32>
-    ensures full { result ≡ full_in docs.now path.now }
+    ensures full { AreDistinct docs.now → result ≡ full_in docs.now path.now }
 {
     let names = path.names();
     for depth in 0..names.len() {
@@ -28,9 +31,18 @@ pub(crate) fn full_in(docs: &[Placed], path: &Path) -> Option<u32>
     None
 }
 
+/// A folder has at most as many children as there are paths. It does nothing: its contract is the law.
+pub fn children_law()
+    ensures few { (folder : PathValue) (paths : List PathValue) → length (children folder paths) ≤ length paths }
+{}
+
+// Fewer documents than items fill no folder, so the children are counted only where there are as many.
 fn is_full(docs: &[Placed], path: &Path, names: &[Name]) -> bool
-    ensures full { result ≡ is_full docs.now path.now names.now }
+    ensures full { AreDistinct docs.now → result ≡ is_full docs.now path.now names.now }
 {
+    if docs.len() < MAX_ITEMS {
+        return false;
+    }
     let count = count_children(names, docs);
     if is_fresh(names, docs, path) {
         MAX_ITEMS <= count
@@ -39,17 +51,28 @@ fn is_full(docs: &[Placed], path: &Path, names: &[Name]) -> bool
     }
 }
 
-// The number of children of the folder with these names: each document counts whose child no document before it has.
+// The number of children of the folder with these names: each document counts that is the first at or below its child.
 fn count_children(names: &[Name], docs: &[Placed]) -> usize
-    ensures count { result ≡ length (children (folder_at names.now) (paths_in docs.now)) }
+    ensures count { AreDistinct docs.now → result ≡ length (children (folder_at names.now) (paths_in docs.now)) }
 {
+    child_laws();
     let mut count = 0;
     for i in 0..docs.len() {
-        if is_fresh(names, &docs[..i], &docs[i].path) {
+        if is_first(names, &docs[..i], &docs[i].path) {
             count += 1;
         }
     }
     count
+}
+
+// Whether the path leads to a child that no other document before it does. A document that is the child is the only one.
+fn is_first(names: &[Name], before: &[Placed], path: &Path) -> bool
+    ensures first { result ≡ is_first (folder_at names.now) before.now (child_towards (folder_at names.now) path.now) }
+{
+    match step_towards(names, path) {
+        None => false,
+        Some((name, folder)) => !folder || !is_seen(names, before, name, folder),
+    }
 }
 
 fn is_fresh(names: &[Name], docs: &[Placed], path: &Path) -> bool

@@ -16,4 +16,5 @@ mod write;
 mod writes;
 
 pub use entries::replay;
+pub use full::children_law;
 pub use plain_tree::PlainTree;

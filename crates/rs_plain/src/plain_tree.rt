@@ -2,7 +2,7 @@
 
 ghost use Rattle.std.specs.Prelude.{◌≡◌, ◌∷◌, ◌++◌, [], ◌<◌, ◌≤◌, true, vec_len, vec_capacity};
 ghost use Rattle.rs_rules.specs.Documents.{others, placed};
-ghost use Rattle.rs_plain.specs.PlainTrees.{other_writes, is_written};
+ghost use Rattle.rs_plain.specs.PlainTrees.{other_writes, is_written, are_written};
 
 use crate::documents::{clash_in, doc_in, live_in};
 use crate::full::full_in;
@@ -10,7 +10,7 @@ use crate::listing::items_in;
 use crate::room::Room;
 use crate::versions::version_in;
 use crate::write::Write;
-use crate::writes::{add, forget, renumber};
+use crate::writes::{add, forget, is_written, renumber};
 use rs_path::{Bytes, Items, Kind, NoMemory, Path};
 use rs_rules::{Doc, Placed, Tree};
 use std::alloc::Global;
@@ -87,12 +87,12 @@ fn put_in(docs: &mut Vec<Placed>, writes: &mut Vec<Write>, n: u64, room: Room)
     requires docs { vec_len docs.old < vec_capacity docs.old }
     requires writes { vec_len writes.old < vec_capacity writes.old }
     requires same { room.written ≡ room.path }
+    requires written { are_written docs.old.items writes.old.items ≡ true }
     ensures docs { docs.new.items ≡ others room.path docs.old.items ++ placed n room.path room.kind room.body ∷ [] }
     ensures writes { writes.new.items ≡ other_writes room.path writes.old.items ++ record { path = room.path; number = n } ∷ [] }
     ensures whole { vec_len writes.new ≤ vec_capacity writes.new }
 {
-    withdraw(docs, &room.path);
-    forget(writes, &room.path);
+    clear(docs, writes, &room.path);
     let write = Write {
         path: room.written,
         number: n,
@@ -110,6 +110,23 @@ fn put_in(docs: &mut Vec<Placed>, writes: &mut Vec<Write>, n: u64, room: Room)
             doc,
         },
     );
+}
+
+// Takes away the document that stands here and the last write. Where nothing was ever written, neither is there.
+fn clear(docs: &mut Vec<Placed>, writes: &mut Vec<Write>, here: &Path)
+    requires written { are_written docs.old.items writes.old.items ≡ true }
+    ensures docs { docs.new.items ≡ others here.now docs.old.items }
+    ensures writes { writes.new.items ≡ other_writes here.now writes.old.items }
+    ensures docs_len { vec_len docs.new ≤ vec_len docs.old }
+    ensures docs_capacity { vec_capacity docs.new ≡ vec_capacity docs.old }
+    ensures writes_len { vec_len writes.new ≤ vec_len writes.old }
+    ensures writes_capacity { vec_capacity writes.new ≡ vec_capacity writes.old }
+{
+    if !is_written(writes.as_slice(), here) {
+        return;
+    }
+    withdraw(docs, here);
+    forget(writes, here);
 }
 
 // Takes away the document at the path; that is the last write of the path.

@@ -22,6 +22,13 @@ pub(crate) fn last_write(names: &[Name], writes: &[Write]) -> u64
     last
 }
 
+/// Whether the path was written.
+pub(crate) fn is_written(writes: &[Write], path: &Path) -> bool
+    ensures written { result ≡ is_written writes.now path.now }
+{
+    writes.iter().any(|write| *path == write.path)
+}
+
 /// Drops the write of the path.
 pub(crate) fn forget(writes: &mut Vec<Write>, path: &Path)
     ensures items { writes.new.items ≡ other_writes path.now writes.old.items }

@@ -10,9 +10,9 @@ returns-then-is_full c =
     let path = c.args.path.now in
     let names = c.names-names.result.now in
     record {
-      full = sym
-          (ap (first_front (is_full docs path) []) (sym c.names-names.ensures.names) ∙ c.loop-depth.invariant
-          ∙ front_here (is_full docs path) names c.loop-depth.depth c.loop-depth-test.true (sym c.is_full.ensures.full ∙ c.if-is_full.true));
+      full = λ distinct. sym
+          (ap (first_front (is_full docs path) []) (sym c.names-names.ensures.names) ∙ c.loop-depth.invariant distinct
+          ∙ front_here (is_full docs path) names c.loop-depth.depth c.loop-depth-test.true (sym (c.is_full.ensures.full distinct) ∙ c.if-is_full.true));
     }
 
 -- src/full.rt:23:5
@@ -21,5 +21,5 @@ loop-depth-preserved c =
     let docs = c.args.docs.now in
     let path = c.args.path.now in
     let names = c.names-names.result.now in
-    c.loop-depth.invariant
-    ∙ front_past (is_full docs path) names c.loop-depth.depth c.loop-depth-test.true (sym c.is_full.ensures.full ∙ c.if-is_full.false)
+    λ distinct. c.loop-depth.invariant distinct
+    ∙ front_past (is_full docs path) names c.loop-depth.depth c.loop-depth-test.true (sym (c.is_full.ensures.full distinct) ∙ c.if-is_full.false)
