@@ -1,3 +1,4 @@
+mod FillLemmas
 mod FrontLemmas
 mod GrantLemmas
 mod MayLemmas
@@ -5,4 +6,5 @@ mod SpellingLemmas
 pub mod OpeningLemmas
 mod StandingLemmas
 mod StepLemmas
+mod TopLemmas
 mod TurnLemmas

@@ -23,10 +23,10 @@ shown_again : (h : History) (path : Path) → cond path.folder (ver h path) (doc
 shown_again h path = twice path.folder (folder_version h path) (doc_version (doc_in path (docs h)))
 
 -- a grant and a revocation change no document and no version
-contents_granted : (n : ℕ) (h : History) (token : List ℕ) (scopes : List Scope) → contents_after n (Grant token scopes) (contents h) ≡ contents h
+pub contents_granted : (n : ℕ) (h : History) (token : List ℕ) (scopes : List Scope) → contents_after n (Grant token scopes) (contents h) ≡ contents h
 contents_granted n h token scopes = ap (λ version. record { docs = docs h; version = version }) (fun_ext (λ path. shown_again h path))
 
-contents_revoked : (n : ℕ) (h : History) (token : List ℕ) → contents_after n (Revoke token) (contents h) ≡ contents h
+pub contents_revoked : (n : ℕ) (h : History) (token : List ℕ) → contents_after n (Revoke token) (contents h) ≡ contents h
 contents_revoked n h token = ap (λ version. record { docs = docs h; version = version }) (fun_ext (λ path. shown_again h path))
 
 module _ {T : Type 0} (tree_stands : T → Contents → Type 0) where

@@ -6,6 +6,8 @@ mod applying;
 mod conditions;
 mod decision;
 mod fronts;
+#[cfg(test)]
+mod full_tests;
 mod granted;
 mod keeping;
 mod laws;

@@ -3,7 +3,6 @@
 ghost use Rattle.std.specs.Prelude.{◌≡◌, ◌≤◌, true, length, IfOk};
 ghost use Rattle.rs_rules.specs.Requests.{is_within_limit};
 
-use crate::limits::{MAX_LEN, refused_limit};
 use crate::turn_cases::{
     ABSENT, CLASHES, EMPTIED, FIRST, FOURTH_FAILS, NARROW, PUBLIC, QUOTA, SECOND_FAILS, TAGS,
     THIRD_FAILS,
@@ -20,11 +19,11 @@ use std::test::Fail;
 
 // ---- rows of a table
 
-fn owner() -> Token {
+pub(crate) fn owner() -> Token {
     Token::of_words(0x0001_0203_0405_0607, 0x0809_0A0B_0C0D_0E0F)
 }
 
-fn stranger() -> Token {
+pub(crate) fn stranger() -> Token {
     Token::of_words(1, 2)
 }
 
@@ -55,7 +54,7 @@ fn cond_of(alloc: Global, text: &str) -> Result<Cond, Fail> {
     Ok(Cond::read(alloc, text.as_bytes())?)
 }
 
-fn body_of(alloc: Global, text: &str) -> Result<Bytes, Fail>
+pub(crate) fn body_of(alloc: Global, text: &str) -> Result<Bytes, Fail>
     ensures short { IfOk result (λ body. length body ≤ 100) }
 {
     if 100 < text.len() {
@@ -88,7 +87,7 @@ fn case_of(alloc: Global, row: &'static str) -> Result<(Request, &'static str), 
     Ok((request, reply))
 }
 
-fn plain_text(alloc: Global) -> Result<Kind, Fail> {
+pub(crate) fn plain_text(alloc: Global) -> Result<Kind, Fail> {
     Ok(Kind::read(alloc, b"text/plain")?.ok_or("no content type")?)
 }
 
@@ -196,7 +195,7 @@ fn reply_of<D: Desk>(alloc: Global, desk: &mut D, request: &Request) -> Result<V
 }
 
 // The request has this reply.
-fn expect<D: Desk>(
+pub(crate) fn expect<D: Desk>(
     rt: &impl Abort,
     alloc: Global,
     desk: &mut D,
@@ -213,13 +212,14 @@ fn expect<D: Desk>(
 }
 
 // Each row of the table has its reply. The number of rows.
-fn check<D: Desk>(
+pub(crate) fn check<D: Desk>(
     rt: &impl Abort,
     alloc: Global,
     desk: &mut D,
     table: &'static str,
 ) -> Result<usize, Fail>
     requires served { D.serves desk.old 0 }
+    ensures served { D.serves desk.new 0 }
 {
     let mut rows: usize = 0;
     for row in table.trim().split('\n') {
@@ -297,7 +297,7 @@ fn a_failed_append_leaves_all_as_it_was(rt: HostRuntime) -> Result<(), Fail> {
 
 // ---- openings
 
-const GRANT: &[u8] =
+pub(crate) const GRANT: &[u8] =
     b"\x01\x03\x00\x01\x02\x03\x04\x05\x06\x07\x08\x09\x0A\x0B\x0C\x0D\x0E\x0F\x00\x08notes:rw";
 
 const GRANT_TO_READ: &[u8] =
@@ -305,7 +305,7 @@ const GRANT_TO_READ: &[u8] =
 
 const REVOKE: &[u8] = b"\x01\x04\x00\x01\x02\x03\x04\x05\x06\x07\x08\x09\x0A\x0B\x0C\x0D\x0E\x0F";
 
-const PUT: &[u8] = b"\x01\x01\x00\x08/notes/x\x0Atext/plain\x00\x00\x00\x05hello";
+pub(crate) const PUT: &[u8] = b"\x01\x01\x00\x08/notes/x\x0Atext/plain\x00\x00\x00\x05hello";
 
 const REMOVE: &[u8] = b"\x01\x02\x00\x02/x";
 
@@ -314,7 +314,11 @@ const WRITTEN_PUT: &[u8] =
 
 const CUT: &[u8] = b"\x01\x03";
 
-fn keeper_of(alloc: Global, rows: &[&[u8]], failing: Vec<u64>) -> Result<MemKeeper, Fail> {
+pub(crate) fn keeper_of(
+    alloc: Global,
+    rows: &[&[u8]],
+    failing: Vec<u64>,
+) -> Result<MemKeeper, Fail> {
     let mut list = Vec::new(alloc);
     for row in rows {
         list.push(Bytes::of(row.to_vec(alloc)?))?;
@@ -470,24 +474,5 @@ fn a_turn_of_the_state_itself(rt: HostRuntime) -> Result<(), Fail> {
     assert_eq!(rt; state.len(), 1);
     let row = keeper.rows().first().ok_or("no row")?;
     assert_eq!(rt; row.as_slice(), GRANT);
-    Ok(())
-}
-
-#[test]
-fn a_full_history_takes_no_write(rt: HostRuntime) -> Result<(), Fail> {
-    let alloc = rt.alloc();
-    let tree = PlainTree::new(alloc)?;
-    let call = Call {
-        method: Method::Delete,
-        path: Path::read_plain(alloc, b"/x")?,
-        pass: Pass::Missing,
-        if_match: Cond::Missing,
-        if_none: Cond::Missing,
-        kind: plain_text(alloc)?,
-        body: body_of(alloc, "")?,
-    };
-    let full = refused_limit(&tree, MAX_LEN, 1000, &call)?.is_some();
-    let fits = refused_limit(&tree, MAX_LEN - 1, 1000, &call)?.is_none();
-    assert!(rt; full && fits);
     Ok(())
 }
