@@ -14,8 +14,8 @@ AppendsFront-longer a b bytes more (count, wrote) = (
 )
 
 -- all was written, whatever handing it on answers
-pub Writes-kept : {A E : Type 0} (a b c : Option (List ℕ)) (before now : ℕ) (bytes : List ℕ) (r : Result A E) → Appends a b bytes → Keeps b c
-    → Writes (record { old = a; new = c; before = before; now = now }) bytes r
-Writes-kept a b c before now bytes (Ok x) wrote kept = Appends-kept a b c bytes wrote kept
-Writes-kept a b c before now bytes (Err e) wrote kept =
-    subst (λ (l : List ℕ). AppendsFront a c l) (append-nil bytes) (AppendsFront-whole a c bytes [] (Appends-kept a b c bytes wrote kept))
+pub Writes-kept : {A E : Type 0} (it : Course (List ℕ)) (mid : Option (List ℕ)) (bytes : List ℕ) (r : Result A E) → Appends it.old mid bytes → Keeps mid it.new
+    → Writes it bytes r
+Writes-kept it mid bytes (Ok x) wrote kept = Appends-kept it.old mid it.new bytes wrote kept
+Writes-kept it mid bytes (Err e) wrote kept =
+    subst (λ (l : List ℕ). AppendsFront it.old it.new l) (append-nil bytes) (AppendsFront-whole it.old it.new bytes [] (Appends-kept it.old mid it.new bytes wrote kept))

@@ -31,7 +31,7 @@ use Rattle.rs_front.specs.Fields.{values_of}
 use Rattle.rs_front.specs.Passes.{pass_of}
 use Rattle.rs_front.specs.Requests.{asked_by, asked_call, asked_path, asked_there, asked_at, asked_of, cond_of, kind_of}
 use Rattle.rs_front.specs.Settling.{IsServed, IsShort}
-use Rattle.rs_front.specs.Targets.{storage_target, grant_target, storage_of, grant_of, below_oauth, after_prefix, target_of, target_text, path_text, verb_of, is_taken, allows}
+use Rattle.rs_front.specs.Targets.{storage_target, grant_target, storage_of, grant_of, below_oauth, after_prefix, target_of, path_part, path_text, verb_of, is_taken, lists_method}
 
 -- nothing is there that is not something
 pub none_left : {X : Type 0} (o : Option X) → ((x : X) → ¬ (o ≡ Some x)) → o ≡ None
@@ -126,7 +126,7 @@ module _ (P : Asked → Type 0) (m : RequestMessage) (user : ℕ) (plain : P Pre
 
 tests : (P : Asked → Type 0) (m : RequestMessage) (target : Target) (verb : Verb) → ((refusal : Refusal) → P (Refused refusal)) → P (asked_there m target verb)
     → P (asked_at m target verb)
-tests P m target verb refused there = by_tests (not (is_taken target verb)) (not (allows target verb))
+tests P m target verb refused there = by_tests (not (is_taken target verb)) (not (lists_method target verb))
   where
     by_tests : (a b : Bool) → P (cond a (Refused NotFound) (cond b (Refused (NotAllowed target)) (asked_there m target verb)))
     by_tests true b = refused NotFound
@@ -136,7 +136,7 @@ tests P m target verb refused there = by_tests (not (is_taken target verb)) (not
 target_served : (n : ℕ) (m : RequestMessage) (target : Target) (verb : Verb) → IsLowTarget n target → IsServed (λ user. user < n) (asked_there m target verb)
 target_served n m Server verb low = tt
 target_served n m (Storage user) verb low =
-    by_path (IsServed (λ user. user < n)) m user tt (λ refusal. tt) (λ method path p x y kind. low) verb (result_ok (target_reading (path_text (target_text m.target))))
+    by_path (IsServed (λ user. user < n)) m user tt (λ refusal. tt) (λ method path p x y kind. low) verb (result_ok (target_reading (path_text (path_part m.target))))
 target_served n m Discovery verb low = tt
 target_served n m (Grant user) verb low = tt
 target_served n m Nothing verb low = tt
@@ -144,10 +144,10 @@ target_served n m Nothing verb low = tt
 -- the user that a message asks is one of the accounts'
 pub asked_is_user : (accounts : List Account) (m : RequestMessage) → IsServed (λ user. user < length accounts) (asked_of accounts m)
 asked_is_user accounts m =
-    let target = target_of accounts (target_text m.target) in
+    let target = target_of accounts (path_part m.target) in
     let verb = verb_of m.method in
     tests (IsServed (λ user. user < length accounts)) m target verb (λ refusal. tt)
-    (target_served (length accounts) m target verb (target_low accounts (target_text m.target)))
+    (target_served (length accounts) m target verb (target_low accounts (path_part m.target)))
 
 -- and is served where these are
 pub served_by : (S T : ℕ → Type 0) (asked : Asked) → ((user : ℕ) → S user → T user) → IsServed S asked → IsServed T asked
@@ -164,7 +164,7 @@ is_short_call Delete body short = refl
 target_short : (m : RequestMessage) (target : Target) (verb : Verb) → length m.body ≤ BODY_LIMIT → IsShort (asked_there m target verb)
 target_short m Server verb short = tt
 target_short m (Storage user) verb short =
-    by_path IsShort m user tt (λ refusal. tt) (λ method path p x y kind. is_short_call method m.body short) verb (result_ok (target_reading (path_text (target_text m.target))))
+    by_path IsShort m user tt (λ refusal. tt) (λ method path p x y kind. is_short_call method m.body short) verb (result_ok (target_reading (path_text (path_part m.target))))
 target_short m Discovery verb short = tt
 target_short m (Grant user) verb short = tt
 target_short m Nothing verb short = tt
@@ -172,6 +172,6 @@ target_short m Nothing verb short = tt
 -- the body that it brings is as short as the message's
 pub asked_is_short : (accounts : List Account) (m : RequestMessage) → length m.body ≤ BODY_LIMIT → IsShort (asked_of accounts m)
 asked_is_short accounts m short =
-    let target = target_of accounts (target_text m.target) in
+    let target = target_of accounts (path_part m.target) in
     let verb = verb_of m.method in
     tests IsShort m target verb (λ refusal. tt) (target_short m target verb short)

@@ -23,7 +23,7 @@ use Rattle.rs_wire.specs.Readings.{Fed, Answer, more, interim, message, fault, a
 use Rattle.rs_wire.specs.Taken.{BeginsWith}
 use Rattle.rs_front.specs.declared.input.Next.{Next}
 use Rattle.rs_front.specs.declared.input.Next.TheVariants as next
-use Rattle.rs_front.specs.Courses.{Course}
+use Rattle.rs_face.specs.Courses.{Course}
 use Rattle.rs_front.specs.Due.{interim_of}
 use Rattle.rs_front.specs.Inputs.{ending, ComesOn, most_read, ReadsOn, Comes, ReadsNext}
 use Rattle.rs_front.specs.ReplyBytes.{interim_bytes}
@@ -57,7 +57,7 @@ count_of r fed stands = stands.count
 -- ---- reading on
 
 -- bytes were read, and nothing else is known of them
-pub record ReadSoFar (place : ℕ) (bytes : List ℕ) (told : Bool) (new : RequestReader) (source : Course) : Type 0 where
+pub record ReadSoFar (place : ℕ) (bytes : List ℕ) (told : Bool) (new : RequestReader) (source : Course (List ℕ)) : Type 0 where
   pub read : List ℕ
   pub consumed : Consumes source.old source.new read
   pub stands : Stands new (fed_at place (bytes ++ read) told)
@@ -71,11 +71,11 @@ nothing_read place bytes told r left n stands = record {
 }
 
 -- an object that was used once more
-abbrev pub on : Course → Option (List ℕ) → ℕ → Course
+abbrev pub on : Course (List ℕ) → Option (List ℕ) → ℕ → Course (List ℕ)
 on course new now = record { old = course.old; new = new; before = course.before; now = now }
 
 -- a piece was read
-pub read_more : (place : ℕ) (bytes : List ℕ) (told : Bool) (r r' : RequestReader) (source : Course) (left : Option (List ℕ)) (now : ℕ) (piece : List ℕ)
+pub read_more : (place : ℕ) (bytes : List ℕ) (told : Bool) (r r' : RequestReader) (source : Course (List ℕ)) (left : Option (List ℕ)) (now : ℕ) (piece : List ℕ)
     → (so_far : ReadSoFar place bytes told r source) → Consumes source.new left piece
     → Stands r' (fed_with (fed_at place (bytes ++ so_far.read) told) piece) → ReadSoFar place bytes told r' (on source left now)
 read_more place bytes told r r' source left now piece so_far consumed stands = record {
@@ -89,7 +89,7 @@ abbrev pub NextLaw : Type 0
 NextLaw = (fed : Fed) (m : RequestMessage) → step_of (answer fed) ≡ Ok (Message m)
     → (next : ℕ) × (message_at fed.place fed.bytes ≡ Some (m, next)) × (fed_after fed (answer fed) ≡ fed_next fed next)
 
-pub came_message : NextLaw → (place : ℕ) (bytes : List ℕ) (told : Bool) (r : RequestReader) (source : Course) (read : List ℕ) (m : RequestMessage)
+pub came_message : NextLaw → (place : ℕ) (bytes : List ℕ) (told : Bool) (r : RequestReader) (source : Course (List ℕ)) (read : List ℕ) (m : RequestMessage)
     → Consumes source.old source.new read → step_of (answer (fed_at place (bytes ++ read) told)) ≡ Ok (Message m)
     → Stands r (fed_after (fed_at place (bytes ++ read) told) (answer (fed_at place (bytes ++ read) told)))
     → ReadsOn place bytes told r source (Some (next.Message m))
@@ -101,7 +101,7 @@ came_message law place bytes told r source read m consumed is stands =
       comes = (given.0, given.1, is, subst (Stands r) given.2 stands);
     }
 
-pub came_interim : (place : ℕ) (bytes : List ℕ) (told : Bool) (r : RequestReader) (source : Course) (read : List ℕ)
+pub came_interim : (place : ℕ) (bytes : List ℕ) (told : Bool) (r : RequestReader) (source : Course (List ℕ)) (read : List ℕ)
     → Consumes source.old source.new read → step_of (answer (fed_at place (bytes ++ read) told)) ≡ Ok Interim
     → Stands r (fed_after (fed_at place (bytes ++ read) told) (answer (fed_at place (bytes ++ read) told)))
     → ReadsOn place bytes told r source None
@@ -113,7 +113,7 @@ came_interim place bytes told r source read consumed is stands =
       comes = (due, subst (λ (a : Answer). Stands r (fed_after (fed_at place (bytes ++ read) told) a)) due stands);
     }
 
-pub came_fault : (place : ℕ) (bytes : List ℕ) (told : Bool) (r : RequestReader) (source : Course) (read : List ℕ) (f : WireFault)
+pub came_fault : (place : ℕ) (bytes : List ℕ) (told : Bool) (r : RequestReader) (source : Course (List ℕ)) (read : List ℕ) (f : WireFault)
     → Consumes source.old source.new read → step_of (answer (fed_at place (bytes ++ read) told)) ≡ Err (Wire f)
     → ReadsOn place bytes told r source (Some (next.Bad f))
 came_fault place bytes told r source read f consumed is = record {
@@ -123,7 +123,7 @@ came_fault place bytes told r source read f consumed is = record {
 }
 
 -- nothing is known where memory was wanted
-pub came_nothing : (place : ℕ) (bytes : List ℕ) (told : Bool) (r : RequestReader) (source : Course) (read : List ℕ)
+pub came_nothing : (place : ℕ) (bytes : List ℕ) (told : Bool) (r : RequestReader) (source : Course (List ℕ)) (read : List ℕ)
     → Consumes source.old source.new read → ReadsOn place bytes told r source (Some next.NoMemory)
 came_nothing place bytes told r source read consumed = record { read = read; consumed = consumed; comes = tt }
 
@@ -182,7 +182,7 @@ given_told laws place rest m end is due = by_test (awaits m) (sym (laws.given (f
     by_test false e = cc
 
 -- nothing was written
-comes_plain : Laws → (place : ℕ) (rest : List ℕ) (r : RequestReader) (source sink : Course) (n : Next) → Appends sink.old sink.new []
+comes_plain : Laws → (place : ℕ) (rest : List ℕ) (r : RequestReader) (source sink : Course (List ℕ)) (n : Next) → Appends sink.old sink.new []
     → ComesOn place rest false r source (Some n) → Comes place rest r source sink n
 comes_plain laws place rest r source sink (next.Message m) wrote comes =
     (comes.0, comes.1, comes.3, subst (Appends sink.old sink.new) (given_plain laws place rest m comes.0 comes.1 comes.2) wrote)
@@ -207,7 +207,7 @@ comes_plain laws place rest r source sink next.NoMemory wrote comes = inl wrote
 comes_plain laws place rest r source sink (next.NotWritten e) wrote comes = absurd comes
 
 -- the interim reply was written
-comes_told : Laws → (place : ℕ) (rest : List ℕ) (r : RequestReader) (source sink : Course) (n : Next) → Appends sink.old sink.new interim_bytes
+comes_told : Laws → (place : ℕ) (rest : List ℕ) (r : RequestReader) (source sink : Course (List ℕ)) (n : Next) → Appends sink.old sink.new interim_bytes
     → answer (fed_at place rest false) ≡ interim → ComesOn place rest true r source (Some n) → Comes place rest r source sink n
 comes_told laws place rest r source sink (next.Message m) wrote due comes =
     (comes.0, comes.1, comes.3, subst (Appends sink.old sink.new) (given_told laws place rest m comes.0 comes.1 due) wrote)
@@ -221,7 +221,7 @@ comes_told laws place rest r source sink next.NoMemory wrote due comes =
 comes_told laws place rest r source sink (next.NotWritten e) wrote due comes = absurd comes
 
 -- a message, an end or a fault came, and no interim reply was due
-pub reads_plain : Laws → (place : ℕ) (bytes : List ℕ) (r : RequestReader) (source : Course) (written : Option (List ℕ)) (n : ℕ) (came : Next)
+pub reads_plain : Laws → (place : ℕ) (bytes : List ℕ) (r : RequestReader) (source : Course (List ℕ)) (written : Option (List ℕ)) (n : ℕ) (came : Next)
     → ReadsOn place bytes false r source (Some came)
     → ReadsNext place bytes r source (record { old = written; new = written; before = n; now = n }) came
 reads_plain laws place bytes r source written n came reads = record {
@@ -231,7 +231,7 @@ reads_plain laws place bytes r source written n came reads = record {
 }
 
 -- the interim reply was due and couldn't be written
-pub reads_unwritten : (place : ℕ) (bytes : List ℕ) (r : RequestReader) (source sink : Course) (why : SinkFault)
+pub reads_unwritten : (place : ℕ) (bytes : List ℕ) (r : RequestReader) (source sink : Course (List ℕ)) (why : SinkFault)
     → ReadsOn place bytes false r source None → {A : Type 0} → AppendsFront sink.old sink.new interim_bytes → HasCause {A = A} sink.before sink.now SinkFault.Failed (Err why)
     → ReadsNext place bytes r source sink (next.NotWritten why)
 reads_unwritten place bytes r source sink why reads {A} front cause = record {
@@ -245,7 +245,7 @@ reads_unwritten place bytes r source sink why reads {A} front cause = record {
     rose SinkFault.NoMemory cause e = cc
 
 -- a later fault is one of the whole
-later_fault : (place : ℕ) (rest : List ℕ) (told : Bool) (r : RequestReader) (old mid : Option (List ℕ)) (first : ℕ) (source : Course) (n : Option Next) → first ≤ source.before
+later_fault : (place : ℕ) (rest : List ℕ) (told : Bool) (r : RequestReader) (old mid : Option (List ℕ)) (first : ℕ) (source : Course (List ℕ)) (n : Option Next) → first ≤ source.before
     → ComesOn place rest told r source n → ComesOn place rest told r (record { old = old; new = source.new; before = first; now = source.now }) n
 later_fault place rest told r old mid first source None low comes = comes
 later_fault place rest told r old mid first source (Some (next.Message m)) low comes = comes
@@ -256,12 +256,12 @@ later_fault place rest told r old mid first source (Some next.NoMemory) low come
 later_fault place rest told r old mid first source (Some (next.NotWritten e)) low comes = comes
 
 -- what was unwrapped came
-pub came_some : (place : ℕ) (bytes : List ℕ) (r : RequestReader) (source : Course) (o : Option Next) (came : Next) → o ≡ Some came
+pub came_some : (place : ℕ) (bytes : List ℕ) (r : RequestReader) (source : Course (List ℕ)) (o : Option Next) (came : Next) → o ≡ Some came
     → ReadsOn place bytes true r source o → ReadsOn place bytes true r source (Some came)
 came_some place bytes r source o came is reads = subst (ReadsOn place bytes true r source) is reads
 
 -- a message, an end or a fault came behind the interim reply
-pub reads_told : Laws → (place : ℕ) (bytes : List ℕ) (mid r : RequestReader) (source : Course) (left : Option (List ℕ)) (now : ℕ) (sink : Course) (came : Next)
+pub reads_told : Laws → (place : ℕ) (bytes : List ℕ) (mid r : RequestReader) (source : Course (List ℕ)) (left : Option (List ℕ)) (now : ℕ) (sink : Course (List ℕ)) (came : Next)
     → source.before ≤ source.now → Appends sink.old sink.new interim_bytes → (due : ReadsOn place bytes false mid source None)
     → ReadsOn place (bytes ++ due.read) true r (record { old = source.new; new = left; before = source.now; now = now }) (Some came)
     → ReadsNext place bytes r (on source left now) sink came
@@ -284,7 +284,7 @@ abbrev pub ShortLaw : Type 0
 ShortLaw = (fed : Fed) → answer fed ≡ more → length fed.bytes < MESSAGE_LIMIT
 
 -- a reader that waits was fed less than a message more than at first
-pub waits_short : ShortLaw → (place : ℕ) (bytes : List ℕ) (told : Bool) (first r r' : RequestReader) (source : Course) → Stands first (fed_at place bytes told)
+pub waits_short : ShortLaw → (place : ℕ) (bytes : List ℕ) (told : Bool) (first r r' : RequestReader) (source : Course (List ℕ)) → Stands first (fed_at place bytes told)
     → (so_far : ReadSoFar place bytes told r source) → step_of (answer (fed_at place (bytes ++ so_far.read) told)) ≡ Ok More
     → Stands r' (fed_after (fed_at place (bytes ++ so_far.read) told) (answer (fed_at place (bytes ++ so_far.read) told)))
     → fed_count r' < fed_count first + MESSAGE_LIMIT
@@ -304,7 +304,7 @@ piece_counted place bytes told r r' piece before after =
     omega (arith, a, b, length-append bytes piece)
 
 -- what was read, and then the end of the input
-pub came_end : (place : ℕ) (bytes : List ℕ) (told : Bool) (r : RequestReader) (source : Course) (read : List ℕ) (result : Result (Unit {0}) WireFault) (came : Next)
+pub came_end : (place : ℕ) (bytes : List ℕ) (told : Bool) (r : RequestReader) (source : Course (List ℕ)) (read : List ℕ) (result : Result (Unit {0}) WireFault) (came : Next)
     → Consumes source.old source.new read → answer (fed_at place (bytes ++ read) told) ≡ more → IsAtEnd source.new
     → finish_of (fed_at place (bytes ++ read) told) ≡ result → came ≡ ending result → ReadsOn place bytes told r source (Some came)
 came_end place bytes told r source read (Ok nothing) came consumed is end finish same = record {

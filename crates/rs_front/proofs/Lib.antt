@@ -1,10 +1,10 @@
-pub mod AskedLemmas
-pub mod DecideLemmas
-pub mod DueLemmas
-pub mod InputLemmas
-pub mod LineLemmas
-pub mod OutputLemmas
-pub mod RoomLemmas
-pub mod SendLemmas
-pub mod ServeLemmas
-pub mod SettleLemmas
+pub mod Cited
+mod AskedLemmas
+mod DecideLemmas
+mod DueLemmas
+mod InputLemmas
+mod LineLemmas
+mod OutputLemmas
+mod RoomLemmas
+mod ServeLemmas
+mod SettleLemmas

@@ -2,8 +2,7 @@
 use Rattle.std.proofs.Common.{◌≡◌, ℕ, ◌+◌, ◌-◌, ◌<◌, ◌≤◌, inl, inr, Bool, true, false, List, [], ◌∷◌, ◌++◌, Option, Some, Result, Ok, Err, length, take, drop, refl, sym, ap, subst, ◌∙◌, arith, append-nil, length-append}
 use Rattle.std.proofs.Math.Seq.{take-append-add, take-length}
 use Rattle.std.specs.Io.KnownBytes.{Consumes, Appends}
-use Rattle.rs_face.proofs.Cited.{Consumes-nil, Consumes-trans, Appends-nil, Appends-trans}
-use Rattle.rs_face.proofs.Cited.{Rose-later}
+use Rattle.rs_face.proofs.Cited.{Consumes-nil, Consumes-trans, Appends-nil, Appends-trans, Rose-later}
 use Rattle.rs_face.specs.Causes.{Rose, HasCause}
 use Rattle.rs_face.specs.Told.{AppendsFront}
 use Rattle.rs_face.specs.declared.sink.SinkFault.{SinkFault}
@@ -19,7 +18,7 @@ use Rattle.rs_front.specs.declared.account.Account.{Account}
 use Rattle.rs_front.specs.declared.input.Next.TheVariants as next
 use Rattle.rs_front.specs.declared.serve.End.{End}
 use Rattle.rs_front.specs.declared.serve.End.TheVariants.{Closed, Limit, ReadFault, NoMemory, BadMessage}
-use Rattle.rs_front.specs.Courses.{Course}
+use Rattle.rs_face.specs.Courses.{Course}
 use Rattle.rs_front.specs.Due.{Users, answer_of, answer_bytes, interim_of, message_bytes, due}
 use Rattle.rs_front.specs.Ends.{closes, IsOpen, Served, due_of, GoesFurther, IsTail, IsPartOf, EndsSo, Serves}
 use Rattle.rs_front.specs.FaultBytes.{fault_bytes}
@@ -56,7 +55,7 @@ PushLaw = (ms : List RequestMessage) (m : RequestMessage) (place : ℕ) (bytes :
 -- ---- so far
 
 -- so many messages were read and replied to, and none of them asks to close
-pub record SoFar (users : Users) (accounts : List Account) (source sink : Course) (old : ℕ → History) (before now : ℕ) (reader : RequestReader) (count : ℕ) : Type 0 where
+pub record SoFar (users : Users) (accounts : List Account) (source sink : Course (List ℕ)) (old : ℕ → History) (before now : ℕ) (reader : RequestReader) (count : ℕ) : Type 0 where
   pub served : Served users accounts source sink old before now
   pub counted : length served.messages ≡ count
   pub going : closes served.messages ≡ false
@@ -94,7 +93,7 @@ nothing_served quota me alone accounts old reader left written n m k stands = re
   sink_later = omega arith;
 }
 
-module _ (grows : GrowsLaw) (push : PushLaw) (users : Users) (accounts : List Account) (source sink : Course) (old : ℕ → History) (before now : ℕ) (reader : RequestReader) (count : ℕ)
+module _ (grows : GrowsLaw) (push : PushLaw) (users : Users) (accounts : List Account) (source sink : Course (List ℕ)) (old : ℕ → History) (before now : ℕ) (reader : RequestReader) (count : ℕ)
     (so_far : SoFar users accounts source sink old before now reader count) (free : count < max_replies) where
   -- more may come
   further : GoesFurther so_far.served.messages
@@ -175,7 +174,7 @@ module _ (grows : GrowsLaw) (push : PushLaw) (users : Users) (accounts : List Ac
   ends_with : (left mid written : Option (List ℕ)) (n j k : ℕ) (read first last : List ℕ) (end said : End)
       (consumed : Consumes source.new left read) → Appends sink.new mid first → sink.now ≤ j
       → IsTail (on source left n) so_far.served.place (so_far.served.rest ++ read) (first ++ last)
-      → EndsWith mid written j k last end said
+      → EndsWith (record { old = mid; new = written; before = j; now = k }) last end said
       → ((appended : Appends sink.old written (so_far.served.wrote ++ (first ++ last)))
       → EndsSo users accounts (on source left n) (on sink written k) old before now (served_to left written n k read (so_far.served.wrote ++ (first ++ last)) consumed appended) end)
       → Serves users accounts (on source left n) (on sink written k) old before now said
@@ -201,7 +200,7 @@ module _ (grows : GrowsLaw) (push : PushLaw) (users : Users) (accounts : List Ac
   pub ends_bad : (reader' : RequestReader) (left mid written : Option (List ℕ)) (n j k : ℕ) (f : WireFault) (said : End)
       → ReadsNext so_far.served.place so_far.served.rest reader' (record { old = source.new; new = left; before = source.now; now = n })
       (record { old = sink.new; new = mid; before = sink.now; now = j }) (next.Bad f) → sink.now ≤ j
-      → EndsWith mid written j k (fault_bytes f.why) (BadMessage f) said
+      → EndsWith (record { old = mid; new = written; before = j; now = k }) (fault_bytes f.why) (BadMessage f) said
       → Serves users accounts (on source left n) (on sink written k) old before now said
   ends_bad reader' left mid written n j k f said reads later ends =
       let tail = pending so_far.served.place (so_far.served.rest ++ reads.read) in
@@ -221,7 +220,7 @@ module _ (grows : GrowsLaw) (push : PushLaw) (users : Users) (accounts : List Ac
   pub ends_starved : (reader' : RequestReader) (left mid written : Option (List ℕ)) (n j k : ℕ) (said : End)
       → ReadsNext so_far.served.place so_far.served.rest reader' (record { old = source.new; new = left; before = source.now; now = n })
       (record { old = sink.new; new = mid; before = sink.now; now = j }) next.NoMemory → sink.now ≤ j
-      → EndsWith mid written j k (starved_bytes true) NoMemory said
+      → EndsWith (record { old = mid; new = written; before = j; now = k }) (starved_bytes true) NoMemory said
       → Serves users accounts (on source left n) (on sink written k) old before now said
   ends_starved reader' left mid written n j k said reads later ends = elim reads.comes [
     | inl none ↦ ends_with left mid written n j k reads.read [] (starved_bytes true) NoMemory said reads.consumed none later
@@ -239,7 +238,7 @@ module _ (grows : GrowsLaw) (push : PushLaw) (users : Users) (accounts : List Ac
       (record { old = sink.new; new = mid; before = sink.now; now = j }) (next.Message m)) where
     -- what the reply says of the message, whether it was written or not
     abbrev Replied : {A E : Type 0} → Result A E → Type 0
-    Replied result = RepliesTo (at users new) accounts count m users.history now faults mid written result
+    Replied result = RepliesTo (at users new) accounts count m users.history now faults (record { old = mid; new = written; before = j; now = k }) result
 
     abbrev bytes_of : {A E : Type 0} (result : Result A E) → Replied result → List ℕ
     bytes_of result replied = interim_of m ++ answer_bytes (manner_of count m) (answer_of (at users new) (asked_of accounts m) replied.outcome)
@@ -317,16 +316,16 @@ module _ (grows : GrowsLaw) (push : PushLaw) (users : Users) (accounts : List Ac
         by_why fault.NoMemory served part cause = (served, part)
 
 -- as many as are served
-pub ends_limit : (users : Users) (accounts : List Account) (source sink : Course) (old : ℕ → History) (before now : ℕ) (reader : RequestReader) (count : ℕ)
+pub ends_limit : (users : Users) (accounts : List Account) (source sink : Course (List ℕ)) (old : ℕ → History) (before now : ℕ) (reader : RequestReader) (count : ℕ)
     → SoFar users accounts source sink old before now reader count → count ≡ max_replies → Serves users accounts source sink old before now Limit
 ends_limit users accounts source sink old before now reader count so_far all = (so_far.served, (so_far.counted ∙ all, so_far.going, so_far.wrote_due))
 
 -- what a reply says of users holds where their quotas, numbers and desk are the same
 pub replies_as : (h : ℕ → History) (quota quota' me me' : ℕ → ℕ) (alone alone' : Bool) (accounts : List Account) (count : ℕ) (m : RequestMessage) (old : ℕ → History)
-    (before now : ℕ) (written written' : Option (List ℕ)) {A E : Type 0} (result : Result A E) → quota ≡ quota' → me ≡ me' → alone ≡ alone'
-    → RepliesTo (record { history = h; quota = quota; me = me; alone = alone }) accounts count m old before now written written' result
-    → RepliesTo (record { history = h; quota = quota'; me = me'; alone = alone' }) accounts count m old before now written written' result
-replies_as h quota quota' me me' alone alone' accounts count m old before now written written' result a b c replied =
+    (before now : ℕ) (sink : Course (List ℕ)) {A E : Type 0} (result : Result A E) → quota ≡ quota' → me ≡ me' → alone ≡ alone'
+    → RepliesTo (record { history = h; quota = quota; me = me; alone = alone }) accounts count m old before now sink result
+    → RepliesTo (record { history = h; quota = quota'; me = me'; alone = alone' }) accounts count m old before now sink result
+replies_as h quota quota' me me' alone alone' accounts count m old before now sink result a b c replied =
     let same : ◌≡◌ {A = Users} (record { history = h; quota = quota; me = me; alone = alone }) (record { history = h; quota = quota'; me = me'; alone = alone' }) =
     (λ i. record { history = h; quota = a i; me = b i; alone = c i }) in
-    subst (λ (u : Users). RepliesTo u accounts count m old before now written written' result) same replied
+    subst (λ (u : Users). RepliesTo u accounts count m old before now sink result) same replied

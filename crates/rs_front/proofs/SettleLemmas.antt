@@ -1,6 +1,7 @@
 -- A message for which memory was wanted has taken nothing.
 use Rattle.std.proofs.Common.{◌≡◌, ℕ, ◌+◌, ◌-◌, ◌≤◌, min, Bool, true, List, [], ◌++◌, Option, Some, None, Result, Ok, Err, IfOk, OnErr, refl, sym, ◌∙◌, ap, subst, arith, append-nil, length, take}
 use Rattle.std.proofs.lemmas.List.{length-append, length-take, nil_from_length}
+use Rattle.rs_face.specs.Courses.{Course, Writes}
 use Rattle.rs_rules.specs.declared.log_entry.LogEntry.{LogEntry}
 use Rattle.rs_rules.specs.declared.reply.Reply.{Reply}
 use Rattle.rs_rules.specs.declared.reply.Reply.TheVariants.{Found, Folder, Stored, Removed, Same, NoToken, BadToken, Forbidden, FolderWrite, Clash, Absent, Unmet, RecordsFull, OverQuota, FolderFull, StoreFailed, Granted, TokenTaken, Revoked, NotGranted}
@@ -19,7 +20,6 @@ use Rattle.rs_wire.specs.declared.message.RequestMessage.{RequestMessage}
 use Rattle.rs_front.specs.declared.account.Account.{Account}
 use Rattle.rs_front.specs.ReplyBytes.{has_content, reply_head, sent_body, manner_of, starved_bytes}
 use Rattle.rs_front.specs.Requests.{asked_of}
-use Rattle.rs_front.specs.Sending.{Writes}
 use Rattle.rs_front.specs.Due.{Users, Outcome, answered, unkept, plain, starved, answer_of, answer_bytes, GoesOn}
 use Rattle.rs_front.specs.Settling.{Decides, Settles, RepliesTo}
 
@@ -188,14 +188,14 @@ settles_by users manner asked wanted old before now a {E} {F} (Err f) later same
 
 -- what was settled and made was sent
 pub replies_made : (users : Users) (accounts : List Account) (count : ℕ) (m : RequestMessage) (old : ℕ → History) (before now : ℕ)
-    (written written' : Option (List ℕ)) (manner : Manner) (w : Written) → {A E F : Type 0} (r : Result A F) → manner ≡ manner_of count m
+    (sink : Course (List ℕ)) (manner : Manner) (w : Written) → {A E F : Type 0} (r : Result A F) → manner ≡ manner_of count m
     → Settles {E = E} users manner (asked_of accounts m) old before now (Ok w) → (h b : List ℕ) → h ≡ w.head.items → b ≡ w.body
-    → Writes written written' (h ++ b) r → RepliesTo users accounts count m old before now written written' r
-replies_made users accounts count m old before now written written' manner w r same settled h b head body sent = record {
+    → Writes sink (h ++ b) r → RepliesTo users accounts count m old before now sink r
+replies_made users accounts count m old before now sink manner w r same settled h b head body sent = record {
   outcome = settled.outcome;
   goes_on = settled.goes_on;
   unkept = settled.unkept;
-  writes = subst (λ (l : List ℕ). Writes written written' l r)
+  writes = subst (λ (l : List ℕ). Writes sink l r)
       (ap (λ (l : List ℕ). l ++ b) head ∙ ap (λ (l : List ℕ). w.head.items ++ l) body ∙ settled.written ∙ ap (λ (k : Manner). answer_bytes k (answer_of users (asked_of accounts m) settled.outcome)) same) sent;
 }
 
@@ -206,15 +206,15 @@ none_is users (Refused refusal) = refl
 
 -- memory was wanted, and the fixed reply was sent
 pub replies_starved : (users : Users) (accounts : List Account) (count : ℕ) (m : RequestMessage) (old : ℕ → History) (before now : ℕ)
-    (written written' : Option (List ℕ)) (manner : Manner) → {A E F : Type 0} (e : E) (r : Result A F) → manner ≡ manner_of count m
+    (sink : Course (List ℕ)) (manner : Manner) → {A E F : Type 0} (e : E) (r : Result A F) → manner ≡ manner_of count m
     → Settles {E = E} users manner (asked_of accounts m) old before now (Err e)
-    → (h b : List ℕ) → h ≡ starved_bytes manner.closing → b ≡ [] → Writes written written' (h ++ b) r
-    → RepliesTo users accounts count m old before now written written' r
-replies_starved users accounts count m old before now written written' manner e r same settled h b fixed none sent = record {
+    → (h b : List ℕ) → h ≡ starved_bytes manner.closing → b ≡ [] → Writes sink (h ++ b) r
+    → RepliesTo users accounts count m old before now sink r
+replies_starved users accounts count m old before now sink manner e r same settled h b fixed none sent = record {
   outcome = settled.outcome;
   goes_on = settled.goes_on;
   unkept = settled.unkept;
-  writes = subst (λ (l : List ℕ). Writes written written' l r)
+  writes = subst (λ (l : List ℕ). Writes sink l r)
       (ap (λ (l : List ℕ). h ++ l) none ∙ append-nil h ∙ fixed ∙ ap (λ (k : Manner). starved_bytes k.closing) same
       ∙ ap (answer_bytes (manner_of count m)) (sym (none_is users (asked_of accounts m)))
       ∙ ap (λ (o : Outcome). answer_bytes (manner_of count m) (answer_of users (asked_of accounts m) o)) (sym settled.written)) sent;

@@ -4,6 +4,10 @@ use Rattle.std.specs.List.{list_all}
 use Rattle.std.specs.Str.{bytes_eq}
 use Rattle.rs_front.specs.declared.account.Account.{Account}
 
+-- the user has an account, whose place is the user's number
+abbrev pub IsAccount : List Account → ℕ → Type 0
+IsAccount accounts user = user < length accounts
+
 -- the account is of the user with this name
 abbrev pub is_of : List ℕ → Account → Bool
 is_of name account = bytes_eq account.name name

@@ -23,6 +23,10 @@ pub record Users : Type 0 where
   pub me : ℕ → ℕ
   pub alone : Bool
 
+-- the users of a desk, by what its trait says that it tells, where they have these histories
+abbrev pub users_of_desk : {D : Type 0} → (D → ℕ → ℕ) → (D → ℕ → ℕ) → (D → Bool) → D → (ℕ → History) → Users
+users_of_desk quota me alone desk history = record { history = history; quota = quota desk; me = me desk; alone = alone desk }
+
 -- what became of a message: the desk answered on its user's history as it was at this length; the record couldn't be kept;
 -- no desk was asked, and the message says what is answered; memory was wanted, and nothing was taken
 pub data Outcome : Type 0 where

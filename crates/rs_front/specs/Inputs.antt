@@ -16,7 +16,7 @@ use Rattle.rs_front.specs.declared.input.Filled.{Filled}
 use Rattle.rs_front.specs.declared.input.Filled.TheVariants.{More, End, Failed, NoMemory}
 use Rattle.rs_front.specs.declared.input.Next.{Next}
 use Rattle.rs_front.specs.declared.input.Next.TheVariants as next
-use Rattle.rs_front.specs.Courses.{Course}
+use Rattle.rs_face.specs.Courses.{Course}
 use Rattle.rs_front.specs.Due.{interim_of}
 use Rattle.rs_front.specs.Rests.{after_last, pending, HasFault}
 
@@ -39,7 +39,7 @@ ending (Ok nothing) = next.End
 ending (Err f) = next.Bad f
 
 -- what comes next of the bytes from this place on, where the interim reply was told or not: None where it is due
-abbrev pub ComesOn : ℕ → List ℕ → Bool → RequestReader → Course → Option Next → Type 0
+abbrev pub ComesOn : ℕ → List ℕ → Bool → RequestReader → Course (List ℕ) → Option Next → Type 0
 ComesOn place rest told new source None = (answer (fed_at place rest told) ≡ interim) × Stands new (fed_at place rest true)
 ComesOn place rest told new source (Some (next.Message m)) =
     (end : ℕ) × (message_at place rest ≡ Some (m, end)) × (step_of (answer (fed_at place rest told)) ≡ Ok (Message m))
@@ -58,14 +58,14 @@ abbrev pub most_read : ℕ
 most_read = MESSAGE_LIMIT + 8192
 
 -- reading on from a place, behind bytes that came before
-pub record ReadsOn (place : ℕ) (bytes : List ℕ) (told : Bool) (new : RequestReader) (source : Course) (outcome : Option Next) : Type 0 where
+pub record ReadsOn (place : ℕ) (bytes : List ℕ) (told : Bool) (new : RequestReader) (source : Course (List ℕ)) (outcome : Option Next) : Type 0 where
   pub read : List ℕ
   pub consumed : Consumes source.old source.new read
   pub comes : ComesOn place (bytes ++ read) told new source outcome
 
 -- what comes next of the bytes from this place on: the next message; the end of the input; a fault; or why reading can't go on.
 -- What is written before it is the interim reply, where that is due
-abbrev pub Comes : ℕ → List ℕ → RequestReader → Course → Course → Next → Type 0
+abbrev pub Comes : ℕ → List ℕ → RequestReader → Course (List ℕ) → Course (List ℕ) → Next → Type 0
 Comes place rest new source sink (next.Message m) =
     (end : ℕ) × (message_at place rest ≡ Some (m, end)) × Stands new (fed_at end (drop (end - place) rest) false)
     × Appends sink.old sink.new (interim_of m)
@@ -80,7 +80,7 @@ Comes place rest new source sink (next.NotWritten e) =
     AppendsFront sink.old sink.new (pending place rest) × (e ≡ SinkFault.Failed → Rose sink.before sink.now)
 
 -- reading up to the next message
-pub record ReadsNext (place : ℕ) (bytes : List ℕ) (new : RequestReader) (source sink : Course) (outcome : Next) : Type 0 where
+pub record ReadsNext (place : ℕ) (bytes : List ℕ) (new : RequestReader) (source sink : Course (List ℕ)) (outcome : Next) : Type 0 where
   pub read : List ℕ
   pub consumed : Consumes source.old source.new read
   pub comes : Comes place (bytes ++ read) new source sink outcome

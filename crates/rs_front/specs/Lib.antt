@@ -1,5 +1,4 @@
 pub mod Accounts
-pub mod Courses
 pub mod Due
 pub mod Ends
 pub mod FaultBytes

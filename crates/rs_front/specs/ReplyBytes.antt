@@ -13,7 +13,7 @@ use Rattle.rs_front.specs.declared.manner.Manner.{Manner}
 use Rattle.rs_front.specs.declared.verb.Verb.{Verb}
 use Rattle.rs_front.specs.declared.verb.Verb.TheVariants.{Data, Options, Post, Other}
 use Rattle.rs_front.specs.StatusLines.{answer_line}
-use Rattle.rs_front.specs.Targets.{is_shared, method_list, target_text, verb_of}
+use Rattle.rs_front.specs.Targets.{is_shared, method_list, path_part, verb_of}
 
 -- ---- how a reply is written
 
@@ -45,7 +45,7 @@ is_closing count m = m.close || is_last count
 -- how the reply to the message is written, after so many others
 abbrev pub manner_of : ℕ → RequestMessage → Manner
 manner_of count m = record {
-  shared = is_shared (target_text m.target);
+  shared = is_shared (path_part m.target);
   bodiless = is_head (verb_of m.method);
   closing = is_closing count m;
 }
@@ -72,10 +72,10 @@ reply_version (Removed version) = Some version
 reply_version (Same version) = Some version
 reply_version reply = None
 
-abbrev pub version_of : Answer → Option ℕ
-version_of (Decided reply) = reply_version reply
-version_of Preflight = None
-version_of (Refused refusal) = None
+abbrev pub answer_version : Answer → Option ℕ
+answer_version (Decided reply) = reply_version reply
+answer_version Preflight = None
+answer_version (Refused refusal) = None
 
 -- the entity tag of a version (RFC 9110, section 8.8.3)
 unfoldable pub tag_text : ℕ → List ℕ
@@ -86,7 +86,7 @@ tag_line_of None = []
 tag_line_of (Some version) = tag_text version
 
 unfoldable pub tag_line : Answer → List ℕ
-tag_line answer = tag_line_of (version_of answer)
+tag_line answer = tag_line_of (answer_version answer)
 
 -- the reply shows what is there, or that it is as it was
 abbrev pub is_shown_reply : Reply → Bool
@@ -193,10 +193,10 @@ listing_of (Decided (Folder version items)) = folder_text items
 listing_of answer = []
 
 -- the body: a document's bytes, a folder's description, or nothing
-abbrev pub body_of : Answer → List ℕ
-body_of (Decided (Found version kind body)) = body
-body_of (Decided (Folder version items)) = folder_text items
-body_of answer = []
+abbrev pub reply_body : Answer → List ℕ
+reply_body (Decided (Found version kind body)) = body
+reply_body (Decided (Folder version items)) = folder_text items
+reply_body answer = []
 
 -- the answer has a body of its own: a document or the description of a folder
 abbrev pub has_content : Answer → Bool
@@ -206,11 +206,11 @@ has_content answer = false
 
 -- the head tells the body's length, also where the body is not sent
 abbrev pub reply_head : Manner → Answer → List ℕ
-reply_head manner answer = head_with (length (body_of answer)) manner answer
+reply_head manner answer = head_with (length (reply_body answer)) manner answer
 
 -- the body that is sent: none to a HEAD (RFC 9110, section 9.3.2)
 abbrev pub sent_body : Manner → Answer → List ℕ
-sent_body manner answer = if manner.bodiless then [] else body_of answer
+sent_body manner answer = if manner.bodiless then [] else reply_body answer
 
 -- the reply
 abbrev pub reply_bytes : Manner → Answer → List ℕ

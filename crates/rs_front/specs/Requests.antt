@@ -21,7 +21,7 @@ use Rattle.rs_front.specs.declared.verb.Verb.{Verb}
 use Rattle.rs_front.specs.declared.verb.Verb.TheVariants.{Data, Options, Post, Other}
 use Rattle.rs_front.specs.Fields.{values_of, joined}
 use Rattle.rs_front.specs.Passes.{pass_of}
-use Rattle.rs_front.specs.Targets.{target_text, target_of, path_text, verb_of, is_taken, allows}
+use Rattle.rs_front.specs.Targets.{path_part, target_of, path_text, verb_of, is_taken, lists_method}
 
 -- ---- fields
 
@@ -94,7 +94,7 @@ asked_path m user Other (Some path) = Refused (NotAllowed (Storage user))
 -- what the message asks of a target that takes its method
 abbrev pub asked_there : RequestMessage → Target → Verb → Asked
 asked_there m Server verb = Preflight
-asked_there m (Storage user) verb = asked_path m user verb (result_ok (target_reading (path_text (target_text m.target))))
+asked_there m (Storage user) verb = asked_path m user verb (result_ok (target_reading (path_text (path_part m.target))))
 asked_there m Discovery verb = Refused NotFound
 asked_there m (Grant user) verb = Refused NotFound
 asked_there m Nothing verb = Refused NotFound
@@ -102,8 +102,8 @@ asked_there m Nothing verb = Refused NotFound
 -- the target, then its methods
 abbrev pub asked_at : RequestMessage → Target → Verb → Asked
 asked_at m target verb = if not (is_taken target verb) then Refused NotFound
-    else (if not (allows target verb) then Refused (NotAllowed target) else asked_there m target verb)
+    else (if not (lists_method target verb) then Refused (NotAllowed target) else asked_there m target verb)
 
 -- what the message asks of a server of these users
 abbrev pub asked_of : List Account → RequestMessage → Asked
-asked_of accounts m = asked_at m (target_of accounts (target_text m.target)) (verb_of m.method)
+asked_of accounts m = asked_at m (target_of accounts (path_part m.target)) (verb_of m.method)

@@ -1,5 +1,6 @@
 -- A message decided: what its outcome is.
 use Rattle.std.specs.Prelude.{◌≡◌, ℕ, ⊤, true, List, [], ◌∷◌, ◌++◌, Option, Some, Result, Ok, Err}
+use Rattle.rs_face.specs.Courses.{Course, Writes}
 use Rattle.rs_rules.specs.Histories.{History}
 use Rattle.rs_rules.specs.Requests.{is_within_limit}
 use Rattle.rs_wire.specs.declared.message.RequestMessage.{RequestMessage}
@@ -11,7 +12,6 @@ use Rattle.rs_front.specs.declared.manner.Manner.{Manner}
 use Rattle.rs_front.specs.declared.reply.Written.{Written}
 use Rattle.rs_front.specs.ReplyBytes.{manner_of}
 use Rattle.rs_front.specs.Requests.{asked_of}
-use Rattle.rs_front.specs.Sending.{Writes}
 use Rattle.rs_front.specs.Due.{Users, Outcome, starved, answer_of, answer_bytes, GoesOn, HasFaults}
 
 -- the user that is asked is served
@@ -52,8 +52,8 @@ pub record Settles {E : Type 0} (users : Users) (manner : Manner) (asked : Asked
 
 -- the reply was written that the outcome gives, after so many others, or a front of it where the sink failed or couldn't grow
 pub record RepliesTo {A E : Type 0} (users : Users) (accounts : List Account) (count : ℕ) (m : RequestMessage) (old : ℕ → History)
-    (before now : ℕ) (written written' : Option (List ℕ)) (result : Result A E) : Type 0 where
+    (before now : ℕ) (sink : Course (List ℕ)) (result : Result A E) : Type 0 where
   pub outcome : Outcome
   pub goes_on : GoesOn users (asked_of accounts m) outcome old users.history
   pub unkept : HasFaults (outcome ∷ []) before now
-  pub writes : Writes written written' (answer_bytes (manner_of count m) (answer_of users (asked_of accounts m) outcome)) result
+  pub writes : Writes sink (answer_bytes (manner_of count m) (answer_of users (asked_of accounts m) outcome)) result

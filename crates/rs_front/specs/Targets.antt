@@ -45,8 +45,8 @@ abbrev pub before_query : List ℕ → List ℕ
 before_query text = option_map_or (λ end. take end text) (position (λ byte. byte == 63) text) text
 
 -- the target without its origin and without its query
-unfoldable pub target_text : List ℕ → List ℕ
-target_text target = before_query (without_origin target)
+unfoldable pub path_part : List ℕ → List ℕ
+path_part target = before_query (without_origin target)
 
 -- ---- what a target is
 
@@ -102,11 +102,11 @@ verb_of text = if bytes_eq text (codes "GET") then Data Get
     else (if bytes_eq text (codes "POST") then Post else Other)))))
 
 -- GET, HEAD, PUT, DELETE or OPTIONS
-abbrev pub is_data : Verb → Bool
-is_data (Data method) = true
-is_data Options = true
-is_data Post = false
-is_data Other = false
+abbrev pub is_storage_method : Verb → Bool
+is_storage_method (Data method) = true
+is_storage_method Options = true
+is_storage_method Post = false
+is_storage_method Other = false
 
 -- GET or HEAD
 abbrev pub is_reading_verb : Verb → Bool
@@ -136,12 +136,12 @@ is_taken (Grant user) verb = false
 is_taken Nothing verb = false
 
 -- the method is in the target's list
-abbrev pub allows : Target → Verb → Bool
-allows Server verb = is_options verb
-allows (Storage user) verb = is_data verb
-allows Discovery verb = is_options verb || is_reading_verb verb
-allows (Grant user) verb = is_post verb || is_reading_verb verb
-allows Nothing verb = false
+abbrev pub lists_method : Target → Verb → Bool
+lists_method Server verb = is_options verb
+lists_method (Storage user) verb = is_storage_method verb
+lists_method Discovery verb = is_options verb || is_reading_verb verb
+lists_method (Grant user) verb = is_post verb || is_reading_verb verb
+lists_method Nothing verb = false
 
 -- the target's list, as an Allow line has it (RFC 9110, section 10.2.1)
 unfoldable pub method_list : Target → List ℕ

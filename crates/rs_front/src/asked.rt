@@ -10,7 +10,7 @@ ghost use Rattle.rs_front.specs.Requests.{octet_stream, kind_of_text, put_kind, 
 use crate::account::Accounts;
 use crate::fields::{Occurs, joined, look_up};
 use crate::pass::read_pass;
-use crate::target::{Target, allows, is_taken, path_text, target_of, target_text};
+use crate::target::{Target, lists_method, is_taken, path_text, target_of, path_part};
 use crate::verb::{Verb, verb_of};
 use rs_path::{Kind, NoMemory, Path, PathFault};
 use rs_rules::{Call, Cond, CondFault, Pass, Request};
@@ -59,11 +59,11 @@ pub fn read_request(
     ensures asked { IfOk result (λ asked. asked ≡ asked_of accounts.now message) }
 {
     let verb = verb_of(message.method.as_slice());
-    let target = target_of(accounts, target_text(message.target.as_slice()));
+    let target = target_of(accounts, path_part(message.target.as_slice()));
     if !is_taken(target, verb) {
         return Ok(Asked::Refused(Refusal::NotFound));
     }
-    if !allows(target, verb) {
+    if !lists_method(target, verb) {
         return Ok(Asked::Refused(Refusal::NotAllowed { target }));
     }
     read_target(alloc, target, verb, message)
@@ -80,7 +80,7 @@ fn read_target(
 {
     match target {
         Target::Storage { user } => {
-            match read_path(alloc, path_text(target_text(message.target.as_slice())))? {
+            match read_path(alloc, path_text(path_part(message.target.as_slice())))? {
                 Some(path) => read_storage(alloc, user, verb, path, message),
                 None => Ok(Asked::Refused(Refusal::BadPath)),
             }

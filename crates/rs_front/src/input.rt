@@ -1,6 +1,7 @@
 //! The messages of a source, one after another.
 
 ghost use Rattle.std.specs.Prelude.{◌≡◌, ◌+◌, ◌<◌, ◌≤◌, ◌^◌, ℕ, List, Bool, false};
+ghost use Rattle.rs_face.specs.Courses.{course};
 ghost use Rattle.rs_wire.specs.Readers.{Stands, fed_count};
 ghost use Rattle.rs_wire.specs.Readings.{Fed, finish_of};
 ghost use Rattle.rs_wire.specs.Laws.{fed_at};
@@ -57,8 +58,8 @@ pub(crate) fn next_message<S: Source, W: Sink>(
     requires room { fed_count reader.old + (most_read + most_read) < 2 ^ 64 }
     ensures reads { (place : ℕ) (bytes : List ℕ) → Stands reader.old (fed_at place bytes false)
         → ReadsNext place bytes reader.new
-        (record { old = S.left source.old; new = S.left source.new; before = S.faults source.old; now = S.faults source.new })
-        (record { old = W.written sink.old; new = W.written sink.new; before = W.faults sink.old; now = W.faults sink.new }) result }
+        (course S.left S.faults source.old source.new)
+        (course W.written W.faults sink.old sink.new) result }
     ensures count { fed_count reader.new ≤ fed_count reader.old + (most_read + most_read) }
     ensures source_later { S.faults source.old ≤ S.faults source.new }
     ensures sink_later { W.faults sink.old ≤ W.faults sink.new }
@@ -81,7 +82,7 @@ fn read_on<S: Source>(reader: &mut RequestReader, source: &mut S) -> Option<Next
     requires room { fed_count reader.old + most_read < 2 ^ 64 }
     ensures reads { (place : ℕ) (bytes : List ℕ) (told : Bool) → Stands reader.old (fed_at place bytes told)
         → ReadsOn place bytes told reader.new
-        (record { old = S.left source.old; new = S.left source.new; before = S.faults source.old; now = S.faults source.new }) result }
+        (course S.left S.faults source.old source.new) result }
     ensures count { fed_count reader.new ≤ fed_count reader.old + most_read }
     ensures later { S.faults source.old ≤ S.faults source.new }
 {

@@ -30,5 +30,5 @@ pub use manner::{Manner, manner_of};
 pub use output::one_output;
 pub use reply::{HEAD_ROOM, Written, head_room, write_answer};
 pub use serve::{End, serve_stream};
-pub use target::{Target, target_of, target_text};
+pub use target::{Target, target_of, path_part};
 pub use verb::{Verb, verb_of};

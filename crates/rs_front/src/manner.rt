@@ -2,10 +2,10 @@
 
 ghost use Rattle.std.specs.Prelude.{◌≡◌, ◌||◌, ◌+◌, ◌<◌, ◌^◌, length};
 ghost use Rattle.rs_wire.specs.declared.message.RequestMessage.{RequestMessage};
-ghost use Rattle.rs_front.specs.Targets.{is_shared, target_text};
+ghost use Rattle.rs_front.specs.Targets.{is_shared, path_part};
 ghost use Rattle.rs_front.specs.ReplyBytes.{manner_of, is_head};
 
-use crate::target::target_text;
+use crate::target::path_part;
 use crate::verb::{Verb, verb_of};
 use rs_scope::Method;
 use rs_wire::RequestMessage;
@@ -30,7 +30,7 @@ pub fn manner_of(message: &RequestMessage, count: u64) -> Manner
     ensures manner { result ≡ manner_of count message.now }
 {
     Manner {
-        shared: is_shared(target_text(message.target.as_slice())),
+        shared: is_shared(path_part(message.target.as_slice())),
         bodiless: is_head(verb_of(message.method.as_slice())),
         closing: message.close || count + 1 == MAX_REPLIES,
     }

@@ -2,7 +2,7 @@
 
 ghost use Rattle.std.specs.Prelude.{◌≡◌, ◌+◌, ◌<◌, ◌≤◌, ◌++◌, length, OnOk, OnErr, option_map, vec_capacity};
 ghost use Rattle.rs_front.specs.Targets.{method_list};
-ghost use Rattle.rs_front.specs.ReplyBytes.{preflight_lines, reply_version, version_of, tag_line, is_shown_reply, is_shown, cache_line, reply_challenge, challenge_line, allow_line, reply_type, type_of, type_line, has_reply_length, has_length, length_line};
+ghost use Rattle.rs_front.specs.ReplyBytes.{preflight_lines, reply_version, answer_version, tag_line, is_shown_reply, is_shown, cache_line, reply_challenge, challenge_line, allow_line, reply_type, type_of, type_line, has_reply_length, has_length, length_line};
 
 use crate::answer::Answer;
 use crate::asked::Refusal;
@@ -31,7 +31,7 @@ pub(crate) fn put_tag_line(out: &mut Vec<u8>, answer: &Answer) -> Result<(), NoM
     ensures capacity { vec_capacity out.old ≤ vec_capacity out.new }
     ensures full { OnErr result (vec_capacity out.old < length out.old.items + length (tag_line answer.now)) }
 {
-    match version_of(answer) {
+    match answer_version(answer) {
         Some(version) => put_tag(out, version)?,
         None => {}
     }
@@ -43,14 +43,14 @@ pub(crate) fn put_tag_line(out: &mut Vec<u8>, answer: &Answer) -> Result<(), NoM
 pub(crate) fn look_at(answer: &Answer)
     ensures short { length (tag_line answer.now) ≤ 30 }
 {
-    match version_of(answer) {
+    match answer_version(answer) {
         Some(version) => look_at_tag(version),
         None => {}
     }
 }
 
-fn version_of(answer: &Answer) -> Option<u64>
-    ensures version { result ≡ version_of answer.now }
+fn answer_version(answer: &Answer) -> Option<u64>
+    ensures version { result ≡ answer_version answer.now }
 {
     match answer {
         Answer::Decided(reply) => reply_version(reply),

@@ -1,9 +1,12 @@
 //! One connection served whole.
 
-ghost use Rattle.std.specs.Prelude.{◌≡◌, ◌<◌, ◌≤◌, ◌++◌, ℕ, length};
-ghost use Rattle.rs_rules.specs.Histories.{History};
+ghost use Rattle.std.specs.Prelude.{◌≡◌, ◌≤◌, ◌++◌, ℕ};
+ghost use Rattle.rs_face.specs.Courses.{course};
+ghost use Rattle.rs_rules.specs.Desks.{ForHistories};
 ghost use Rattle.rs_wire.specs.Readers.{Stands};
 ghost use Rattle.rs_wire.specs.Readings.{unfed};
+ghost use Rattle.rs_front.specs.Accounts.{IsAccount};
+ghost use Rattle.rs_front.specs.Due.{users_of_desk};
 ghost use Rattle.rs_front.specs.Ends.{Serves};
 ghost use Rattle.rs_front.specs.FaultBytes.{fault_bytes};
 ghost use Rattle.rs_front.specs.Sending.{EndsWith, end_of};
@@ -45,8 +48,9 @@ pub enum End {
 /// the reply to bytes that are no request is due, or the 503 that closes where reading wants memory. After 1,000 replies, and
 /// after one to a message that asks to close (RFC 9112, section 9.6), the input isn't looked at any more.
 ///
-/// The desk serves the user of each account, whose number is its place in the list. Over a desk that waits for nobody, and
-/// objects that do, the call returns.
+/// The desk serves the user of each account, whose number is its place in the list. It goes on to do so, under the same quotas
+/// and numbers and as alone as before (`Desk::keeps`), so that it can serve the next connection. Over a desk that waits for
+/// nobody, and objects that do, the call returns.
 pub fn serve_stream<S: Source, W: Sink, D: Desk>(
     alloc: Global,
     config: &Config,
@@ -54,15 +58,11 @@ pub fn serve_stream<S: Source, W: Sink, D: Desk>(
     sink: &mut W,
     desk: &mut D,
 ) -> End
-    requires served { (user : ℕ) → user < length config.now.accounts → D.serves desk.old user }
-    ensures serves { (old : ℕ → History) → ((user : ℕ) → user < length config.now.accounts → D.stands desk.old user (old user))
-        → (now : ℕ → History) × ((user : ℕ) → user < length config.now.accounts → D.stands desk.new user (now user))
-        × Serves (record { history = now; quota = D.quota desk.old; me = D.me desk.old; alone = D.alone desk.old }) config.now.accounts
-        (record { old = S.left source.old; new = S.left source.new; before = S.faults source.old; now = S.faults source.new })
-        (record { old = W.written sink.old; new = W.written sink.new; before = W.faults sink.old; now = W.faults sink.new })
-        old (D.faults desk.old) (D.faults desk.new) result }
-    ensures users { (user : ℕ) → D.serves desk.old user → D.serves desk.new user }
-    ensures later { D.faults desk.old ≤ D.faults desk.new }
+    requires served { (user : ℕ) → IsAccount config.now.accounts user → D.serves desk.old user }
+    ensures serves { ForHistories (IsAccount config.now.accounts) (D.stands desk.old) (D.stands desk.new) (λ old now.
+        Serves (users_of_desk D.quota D.me D.alone desk.old now) config.now.accounts
+        (course S.left S.faults source.old source.new) (course W.written W.faults sink.old sink.new)
+        old (D.faults desk.old) (D.faults desk.new) result) }
     ensures is_later { D.is_later desk.old desk.new }
 {
     let mut reader = RequestReader::new(alloc);
@@ -78,16 +78,12 @@ fn serve_messages<S: Source, W: Sink, D: Desk>(
     sink: &mut W,
     desk: &mut D,
 ) -> End
-    requires served { (user : ℕ) → user < length config.now.accounts → D.serves desk.old user }
+    requires served { (user : ℕ) → IsAccount config.now.accounts user → D.serves desk.old user }
     requires fresh { Stands reader.old unfed }
-    ensures serves { (old : ℕ → History) → ((user : ℕ) → user < length config.now.accounts → D.stands desk.old user (old user))
-        → (now : ℕ → History) × ((user : ℕ) → user < length config.now.accounts → D.stands desk.new user (now user))
-        × Serves (record { history = now; quota = D.quota desk.old; me = D.me desk.old; alone = D.alone desk.old }) config.now.accounts
-        (record { old = S.left source.old; new = S.left source.new; before = S.faults source.old; now = S.faults source.new })
-        (record { old = W.written sink.old; new = W.written sink.new; before = W.faults sink.old; now = W.faults sink.new })
-        old (D.faults desk.old) (D.faults desk.new) result }
-    ensures users { (user : ℕ) → D.serves desk.old user → D.serves desk.new user }
-    ensures later { D.faults desk.old ≤ D.faults desk.new }
+    ensures serves { ForHistories (IsAccount config.now.accounts) (D.stands desk.old) (D.stands desk.new) (λ old now.
+        Serves (users_of_desk D.quota D.me D.alone desk.old now) config.now.accounts
+        (course S.left S.faults source.old source.new) (course W.written W.faults sink.old sink.new)
+        old (D.faults desk.old) (D.faults desk.new) result) }
     ensures is_later { D.is_later desk.old desk.new }
 {
     one_division();
@@ -114,7 +110,7 @@ fn serve_messages<S: Source, W: Sink, D: Desk>(
 
 // Writes the reply to bytes that are no request.
 fn end_at_fault<W: Sink>(sink: &mut W, fault: WireFault) -> End
-    ensures ends { EndsWith (W.written sink.old) (W.written sink.new) (W.faults sink.old) (W.faults sink.new) (fault_bytes fault.why) (End.BadMessage fault) result }
+    ensures ends { EndsWith (course W.written W.faults sink.old sink.new) (fault_bytes fault.why) (End.BadMessage fault) result }
     ensures later { W.faults sink.old ≤ W.faults sink.new }
 {
     end_with(
@@ -127,7 +123,7 @@ fn end_at_fault<W: Sink>(sink: &mut W, fault: WireFault) -> End
 
 // Writes the last reply; the end is that one, or says that the reply couldn't be written.
 fn end_with<W: Sink>(sink: &mut W, head: &[u8], rest: &[u8], end: End) -> End
-    ensures ends { EndsWith (W.written sink.old) (W.written sink.new) (W.faults sink.old) (W.faults sink.new) (head.now ++ rest.now) end result }
+    ensures ends { EndsWith (course W.written W.faults sink.old sink.new) (head.now ++ rest.now) end result }
     ensures later { W.faults sink.old ≤ W.faults sink.new }
 {
     match send(sink, head, rest) {

@@ -1,7 +1,7 @@
 //! A message, answered.
 
 ghost use Rattle.std.specs.Prelude.{◌≡◌, ◌+◌, ◌<◌, ◌≤◌, ◌^◌, ℕ, true, length};
-ghost use Rattle.rs_rules.specs.Histories.{History};
+ghost use Rattle.rs_rules.specs.Desks.{ForHistories};
 ghost use Rattle.rs_rules.specs.Requests.{is_within_limit};
 ghost use Rattle.rs_front.specs.declared.asked.Asked.TheVariants.{Desk};
 ghost use Rattle.rs_wire.specs.declared.limits.TheConstants.{BODY_LIMIT};
@@ -9,6 +9,9 @@ ghost use Rattle.rs_front.specs.Requests.{asked_of};
 ghost use Rattle.rs_front.specs.Settling.{IsServed, IsShort, Decides, Settles, RepliesTo};
 ghost use Rattle.rs_face.specs.declared.sink.SinkFault.TheVariants as SinkFault;
 ghost use Rattle.rs_face.specs.Causes.{HasCause};
+ghost use Rattle.rs_face.specs.Courses.{course};
+ghost use Rattle.rs_front.specs.Accounts.{IsAccount};
+ghost use Rattle.rs_front.specs.Due.{users_of_desk};
 
 use crate::account::Config;
 use crate::answer::Answer;
@@ -33,19 +36,13 @@ pub(crate) fn reply_to<W: Sink, D: Desk>(
     count: u64,
     sink: &mut W,
 ) -> Result<(), SinkFault>
-    requires served { (user : ℕ) → user < length config.now.accounts → D.serves desk.old user }
+    requires served { (user : ℕ) → IsAccount config.now.accounts user → D.serves desk.old user }
     requires short { length message.body ≤ BODY_LIMIT }
     requires few { count + 1 < 2 ^ 64 }
-    ensures replies { (old : ℕ → History) → ((user : ℕ) → user < length config.now.accounts → D.stands desk.old user (old user))
-        → (now : ℕ → History) × ((user : ℕ) → user < length config.now.accounts → D.stands desk.new user (now user))
-        × RepliesTo (record { history = now; quota = D.quota desk.old; me = D.me desk.old; alone = D.alone desk.old }) config.now.accounts count message old
-        (D.faults desk.old) (D.faults desk.new) (W.written sink.old) (W.written sink.new) result }
+    ensures replies { ForHistories (IsAccount config.now.accounts) (D.stands desk.old) (D.stands desk.new) (λ old now.
+        RepliesTo (users_of_desk D.quota D.me D.alone desk.old now) config.now.accounts count message old
+        (D.faults desk.old) (D.faults desk.new) (course W.written W.faults sink.old sink.new) result) }
     ensures cause { HasCause (W.faults sink.old) (W.faults sink.new) SinkFault.Failed result }
-    ensures users { (user : ℕ) → D.serves desk.old user → D.serves desk.new user }
-    ensures same_quota { D.quota desk.new ≡ D.quota desk.old }
-    ensures same_number { D.me desk.new ≡ D.me desk.old }
-    ensures same_alone { D.alone desk.new ≡ D.alone desk.old }
-    ensures later { D.faults desk.old ≤ D.faults desk.new }
     ensures is_later { D.is_later desk.old desk.new }
 {
     let manner = manner_of(&message, count);
@@ -64,17 +61,11 @@ fn settle<D: Desk>(
     message: RequestMessage,
     manner: Manner,
 ) -> Result<Written, NoMemory>
-    requires served { (user : ℕ) → user < length config.now.accounts → D.serves desk.old user }
+    requires served { (user : ℕ) → IsAccount config.now.accounts user → D.serves desk.old user }
     requires short { length message.body ≤ BODY_LIMIT }
-    ensures settles { (old : ℕ → History) → ((user : ℕ) → user < length config.now.accounts → D.stands desk.old user (old user))
-        → (now : ℕ → History) × ((user : ℕ) → user < length config.now.accounts → D.stands desk.new user (now user))
-        × Settles (record { history = now; quota = D.quota desk.old; me = D.me desk.old; alone = D.alone desk.old }) manner (asked_of config.now.accounts message) old
-        (D.faults desk.old) (D.faults desk.new) result }
-    ensures users { (user : ℕ) → D.serves desk.old user → D.serves desk.new user }
-    ensures same_quota { D.quota desk.new ≡ D.quota desk.old }
-    ensures same_number { D.me desk.new ≡ D.me desk.old }
-    ensures same_alone { D.alone desk.new ≡ D.alone desk.old }
-    ensures later { D.faults desk.old ≤ D.faults desk.new }
+    ensures settles { ForHistories (IsAccount config.now.accounts) (D.stands desk.old) (D.stands desk.new) (λ old now.
+        Settles (users_of_desk D.quota D.me D.alone desk.old now) manner (asked_of config.now.accounts message) old
+        (D.faults desk.old) (D.faults desk.new) result) }
     ensures is_later { D.is_later desk.old desk.new }
 {
     let asked = read_request(alloc, &config.accounts, message)?;
@@ -87,14 +78,9 @@ fn settle<D: Desk>(
 fn decide<D: Desk>(desk: &mut D, asked: Asked) -> Result<Answer, NoMemory>
     requires served { IsServed (D.serves desk.old) asked }
     requires short { IsShort asked }
-    ensures decides { (n : ℕ) (old : ℕ → History) → IsServed (λ user. user < n) asked → ((user : ℕ) → user < n → D.stands desk.old user (old user))
-        → (now : ℕ → History) × ((user : ℕ) → user < n → D.stands desk.new user (now user))
-        × Decides (record { history = now; quota = D.quota desk.old; me = D.me desk.old; alone = D.alone desk.old }) asked old (D.faults desk.old) (D.faults desk.new) result }
-    ensures users { (user : ℕ) → D.serves desk.old user → D.serves desk.new user }
-    ensures same_quota { D.quota desk.new ≡ D.quota desk.old }
-    ensures same_number { D.me desk.new ≡ D.me desk.old }
-    ensures same_alone { D.alone desk.new ≡ D.alone desk.old }
-    ensures later { D.faults desk.old ≤ D.faults desk.new }
+    ensures decides { (n : ℕ) → IsServed (λ user. user < n) asked
+        → ForHistories (λ user. user < n) (D.stands desk.old) (D.stands desk.new) (λ old now.
+        Decides (users_of_desk D.quota D.me D.alone desk.old now) asked old (D.faults desk.old) (D.faults desk.new) result) }
     ensures is_later { D.is_later desk.old desk.new }
 {
     match asked {
@@ -108,14 +94,9 @@ fn decide<D: Desk>(desk: &mut D, asked: Asked) -> Result<Answer, NoMemory>
 fn ask<D: Desk>(desk: &mut D, user: u32, request: &Request) -> Result<Answer, NoMemory>
     requires served { D.serves desk.old user }
     requires short { is_within_limit request.now ≡ true }
-    ensures decides { (n : ℕ) (old : ℕ → History) → user < n → ((user : ℕ) → user < n → D.stands desk.old user (old user))
-        → (now : ℕ → History) × ((user : ℕ) → user < n → D.stands desk.new user (now user))
-        × Decides (record { history = now; quota = D.quota desk.old; me = D.me desk.old; alone = D.alone desk.old }) (Desk user request.now) old (D.faults desk.old) (D.faults desk.new) result }
-    ensures users { (user : ℕ) → D.serves desk.old user → D.serves desk.new user }
-    ensures same_quota { D.quota desk.new ≡ D.quota desk.old }
-    ensures same_number { D.me desk.new ≡ D.me desk.old }
-    ensures same_alone { D.alone desk.new ≡ D.alone desk.old }
-    ensures later { D.faults desk.old ≤ D.faults desk.new }
+    ensures decides { (n : ℕ) → user < n
+        → ForHistories (λ user. user < n) (D.stands desk.old) (D.stands desk.new) (λ old now.
+        Decides (users_of_desk D.quota D.me D.alone desk.old now) (Desk user request.now) old (D.faults desk.old) (D.faults desk.new) result) }
     ensures is_later { D.is_later desk.old desk.new }
 {
     match desk.turn(user, request) {

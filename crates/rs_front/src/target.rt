@@ -1,7 +1,7 @@
 //! The targets of requests.
 
 ghost use Rattle.std.specs.Prelude.{◌≡◌, ◌<◌, ◌==◌, length, position, option_map, IfSome, if◌then◌else◌};
-ghost use Rattle.rs_front.specs.Targets.{after_prefix, after_scheme, after_name, is_authority_end, from_path, without_origin, before_query, target_text, path_text, storage_of, grant_of, below_oauth, target_of, is_taken, is_data, is_reading_verb, allows};
+ghost use Rattle.rs_front.specs.Targets.{after_prefix, after_scheme, after_name, is_authority_end, from_path, without_origin, before_query, path_part, path_text, storage_of, grant_of, below_oauth, target_of, is_taken, is_storage_method, is_reading_verb, lists_method};
 
 use crate::account::Accounts;
 use crate::verb::Verb;
@@ -23,9 +23,9 @@ pub enum Target {
 }
 
 /// The target without `http://` or `https://` and an authority, where it begins so, and without its query.
-#[tactic(auto, unfolding(crate::specs::Targets::target_text))]
-pub fn target_text(target: &[u8]) -> &[u8]
-    ensures text { result.now ≡ target_text target.now }
+#[tactic(auto, unfolding(crate::specs::Targets::path_part))]
+pub fn path_part(target: &[u8]) -> &[u8]
+    ensures text { result.now ≡ path_part target.now }
 {
     before_query(without_origin(target))
 }
@@ -188,15 +188,15 @@ pub fn is_taken(target: Target, verb: Verb) -> bool
 }
 
 /// Whether the method is in the target's list.
-pub fn allows(target: Target, verb: Verb) -> bool
-    ensures allows { result ≡ allows target verb }
+pub fn lists_method(target: Target, verb: Verb) -> bool
+    ensures lists_method { result ≡ lists_method target verb }
 {
     match target {
         Target::Server => match verb {
             Verb::Options => true,
             _ => false,
         },
-        Target::Storage { .. } => is_data(verb),
+        Target::Storage { .. } => is_storage_method(verb),
         Target::Discovery => match verb {
             Verb::Options => true,
             _ => is_reading(verb),
@@ -209,8 +209,8 @@ pub fn allows(target: Target, verb: Verb) -> bool
     }
 }
 
-fn is_data(verb: Verb) -> bool
-    ensures data { result ≡ is_data verb }
+fn is_storage_method(verb: Verb) -> bool
+    ensures data { result ≡ is_storage_method verb }
 {
     match verb {
         Verb::Data(_) => true,

@@ -1,4 +1,5 @@
 use Rattle.std.proofs.Common.{◌-◌, ◌+◌, ◌≤◌, ℕ, List, Bool}
+use Rattle.rs_face.specs.Courses.{course}
 use Rattle.rs_wire.specs.Laws.{fed_at}
 use Rattle.rs_wire.specs.Readers.{Stands, fed_count}
 use Rattle.rs_front.specs.Inputs.{most_read}
@@ -9,7 +10,7 @@ abbrev pub invariant-reading : goal.invariant-reading
 invariant-reading g l = record {
   so_far : (place : ℕ) (bytes : List ℕ) (told : Bool) → Stands l.fn.reader (fed_at place bytes told)
       → ReadSoFar place bytes told l.reader
-      (record { old = g.S.Source.left l.fn.source; new = g.S.Source.left l.source; before = g.S.Source.faults l.fn.source; now = g.S.Source.faults l.source });
+      (course g.S.Source.left g.S.Source.faults l.fn.source l.source);
   count : fed_count l.reader ≤ fed_count l.fn.reader + most_read;
   later : g.S.Source.faults l.fn.source ≤ g.S.Source.faults l.source;
 }

@@ -1,6 +1,6 @@
 use Rattle.std.proofs.lemmas.Result.{err_from_is_err_and}
-use Rattle.rs_face.proofs.Cited.{Appends-trans, AppendsFront-after}
-use Rattle.rs_front.proofs.SendLemmas.{AppendsFront-longer, Writes-kept}
+use Rattle.rs_face.proofs.Cited.{Appends-trans, AppendsFront-after, AppendsFront-longer, Writes-kept}
+use Rattle.rs_face.specs.Courses.{course}
 use Rattle.rs_front.proofs.sending.send.Goals as goal
 
 pub returns-in_err-write_all-clause-writes : goal.returns-in_err-write_all-clause-writes
@@ -15,4 +15,4 @@ returns-in_err-write_all-2-clause-writes g c =
 
 pub returns-clause-writes : goal.returns-clause-writes
 returns-clause-writes g c =
-    Writes-kept _ _ _ _ _ (Appends-trans _ _ _ c.args.head.now c.args.body.now c.in_ok-write_all.ensures.ok c.in_ok-write_all-2.ensures.ok) c.flush.ensures.bytes
+    Writes-kept (course g.W.Sink.written g.W.Sink.faults c.args.sink.now c.flush.new.self) _ _ _ (Appends-trans _ _ _ c.args.head.now c.args.body.now c.in_ok-write_all.ensures.ok c.in_ok-write_all-2.ensures.ok) c.flush.ensures.bytes

@@ -1,4 +1,5 @@
 use Rattle.std.proofs.Common.{ℕ, ◌-◌, ◌++◌, List, drop, subst, append-nil, [], arith, refl, ◌∙◌}
+use Rattle.rs_face.specs.Courses.{course}
 use Rattle.rs_wire.specs.Readings.{unfed}
 use Rattle.rs_front.specs.declared.serve.End.TheVariants.{NoMemory}
 use Rattle.rs_front.specs.Sending.{EndsWith}
@@ -11,11 +12,6 @@ serving-init g c = record {
   so_far = λ old stands. (old, stands, nothing_served _ _ _ _ old _ _ _ _ _ _ c.requires.fresh);
   between = (0, [], c.requires.fresh);
   near = let none = count_of c.args.reader.now unfed c.requires.fresh in omega (arith, none);
-  users = λ user served. served;
-  same_quota = refl;
-  same_number = refl;
-  same_alone = refl;
-  later = omega arith;
   is_later = g.met.D.Desk.stays c.args.desk.now;
 }
 
@@ -50,36 +46,36 @@ returns-in-NoMemory-clause-serves g c old stands =
       so_far.0,
       so_far.1,
       ends_starved c.one_division.ensures.grows c.one_division.ensures.push _ _ _ _ _ _ _ _ _ so_far.2 c.serving-test.true _ _ _ _ _ _ _ _ reads c.in-NoMemory.ensures.sink_later
-          (subst (λ (bytes : List ℕ). EndsWith (g.W.Sink.written c.next_message.new.sink) (g.W.Sink.written c.end_with.new.sink) (g.W.Sink.faults c.next_message.new.sink)
-          (g.W.Sink.faults c.end_with.new.sink) bytes NoMemory c.end_with.result) (append-nil c.starved_bytes.result.now ∙ c.starved_bytes.ensures.bytes) c.end_with.ensures.ends),
+          (subst (λ (bytes : List ℕ). EndsWith (course g.W.Sink.written g.W.Sink.faults c.next_message.new.sink c.end_with.new.sink) bytes NoMemory c.end_with.result) (append-nil c.starved_bytes.result.now ∙ c.starved_bytes.ensures.bytes) c.end_with.ensures.ends),
     )
 
 pub returns-in-Err-clause-serves : goal.returns-in-Err-clause-serves
 returns-in-Err-clause-serves g c old stands =
+    let kept = g.met.D.Desk.keeps _ _ c.serving.invariant.is_later in
     let so_far = c.serving.invariant.so_far old stands in
     let reads = c.in-Message.ensures.reads so_far.2.served.place so_far.2.served.rest so_far.2.stands in
     let replied = c.in-Err.ensures.replies so_far.0 so_far.1 in
-    let said = replies_as replied.0 _ _ _ _ _ _ _ _ _ _ _ _ _ _ _ c.serving.invariant.same_quota c.serving.invariant.same_number c.serving.invariant.same_alone replied.2 in
+    let said = replies_as replied.0 _ _ _ _ _ _ _ _ _ _ _ _ _ _ kept.same_quota kept.same_number kept.same_alone replied.2 in
     (replied.0, replied.1, rw c.end_of-in-Err.ensures.end (ends_unreplied c.one_division.ensures.grows c.one_division.ensures.push _ _ _ _ _ _ _ _ _ so_far.2 c.serving-test.true replied.0 _ _ _ _ _ _ _ _ _ reads c.in-Err.fault said c.in-Err.ensures.cause c.in-Message.ensures.sink_later))
 
 pub returns-then-close-clause-serves : goal.returns-then-close-clause-serves
 returns-then-close-clause-serves g c old stands =
+    let kept = g.met.D.Desk.keeps _ _ c.serving.invariant.is_later in
     let so_far = c.serving.invariant.so_far old stands in
     let reads = c.in-Message.ensures.reads so_far.2.served.place so_far.2.served.rest so_far.2.stands in
     let replied = c.in_default.ensures.replies so_far.0 so_far.1 in
-    let said = replies_as replied.0 _ _ _ _ _ _ _ _ _ _ _ _ _ _ _ c.serving.invariant.same_quota c.serving.invariant.same_number c.serving.invariant.same_alone replied.2 in
+    let said = replies_as replied.0 _ _ _ _ _ _ _ _ _ _ _ _ _ _ kept.same_quota kept.same_number kept.same_alone replied.2 in
     (replied.0, replied.1, ends_asked c.one_division.ensures.grows c.one_division.ensures.push _ _ _ _ _ _ _ _ _ so_far.2 c.serving-test.true replied.0 _ _ _ _ _ _ _ _ _ reads _ said c.if-close.true)
 
 pub serving-preserved : goal.serving-preserved
 serving-preserved g c =
-    let later = c.serving.invariant.later in
-    let after = c.reply_to.ensures.later in
+    let kept = g.met.D.Desk.keeps _ _ c.serving.invariant.is_later in
     record {
       so_far = λ old stands.
           let so_far = c.serving.invariant.so_far old stands in
           let reads = c.in-Message.ensures.reads so_far.2.served.place so_far.2.served.rest so_far.2.stands in
           let replied = c.in_default.ensures.replies so_far.0 so_far.1 in
-          let said = replies_as replied.0 _ _ _ _ _ _ _ _ _ _ _ _ _ _ _ c.serving.invariant.same_quota c.serving.invariant.same_number c.serving.invariant.same_alone replied.2 in (
+          let said = replies_as replied.0 _ _ _ _ _ _ _ _ _ _ _ _ _ _ kept.same_quota kept.same_number kept.same_alone replied.2 in (
             replied.0,
             replied.1,
             served_more c.one_division.ensures.grows c.one_division.ensures.push _ _ _ _ _ _ _ _ _ so_far.2 c.serving-test.true replied.0 _ _ _ _ _ _ _ _ _ reads _ said c.if-close.false c.in-Message.ensures.source_later
@@ -90,11 +86,6 @@ serving-preserved g c =
           let reads = c.in-Message.ensures.reads place bytes stands in
           (reads.comes.0, drop (reads.comes.0 - place) (bytes ++ reads.read), reads.comes.2);
       near = let before = c.serving.invariant.near in let count = c.in-Message.ensures.count in omega (arith, before, count);
-      users = λ user served. c.reply_to.ensures.users user (c.serving.invariant.users user served);
-      same_quota = c.reply_to.ensures.same_quota ∙ c.serving.invariant.same_quota;
-      same_number = c.reply_to.ensures.same_number ∙ c.serving.invariant.same_number;
-      same_alone = c.reply_to.ensures.same_alone ∙ c.serving.invariant.same_alone;
-      later = omega (arith, later, after);
       is_later = g.met.D.Desk.goes_on _ _ _ c.serving.invariant.is_later c.reply_to.ensures.is_later;
     }
 
