@@ -10,7 +10,7 @@ use Rattle.rs_record.specs.declared.records.Record.{Record}
 use Rattle.rs_record.specs.declared.records.Record.TheVariants.{Put, Remove, Grant, Revoke}
 use Rattle.rs_rules.specs.declared.doc.Doc.{Doc}
 use Rattle.rs_rules.specs.declared.placed.Placed.{Placed}
-use Rattle.rs_rules.specs.Documents.{others, placed, docs_after, doc_in, has_below}
+use Rattle.rs_rules.specs.Documents.{others, placed_document, docs_after, doc_in, has_below}
 use Rattle.rs_rules.specs.Versions.{writes_below, is_there}
 use Rattle.rs_rules.proofs.FindLemmas.{find-filter_not, find-filter_other, find-append, any-filter_other}
 
@@ -56,16 +56,16 @@ doc_in-none : (q : Path) (d : Placed) → same_path q d.path ≡ false → doc_i
 doc_in-none q d other = ap (option_map (λ (e : Placed). e.doc)) (cond-false (same_path q d.path) (Some d) None other)
 
 -- the path of a Put has the document that was put
-pub doc_in-put : (n : ℕ) (p : Path) (k b : List ℕ) (ds : List Placed) → doc_in p (others p ds ++ placed n p k b ∷ []) ≡ Some (record { version = n; kind = k; body = b })
+pub doc_in-put : (n : ℕ) (p : Path) (k b : List ℕ) (ds : List Placed) → doc_in p (others p ds ++ placed_document n p k b ∷ []) ≡ Some (record { version = n; kind = k; body = b })
 doc_in-put n p k b ds =
-    doc_in-append p (others p ds) (placed n p k b ∷ [])
-    ∙ ap (λ o. option_or o (doc_in p (placed n p k b ∷ []))) (doc_in-others p ds)
-    ∙ doc_in-one p (placed n p k b) (same_itself p)
+    doc_in-append p (others p ds) (placed_document n p k b ∷ [])
+    ∙ ap (λ o. option_or o (doc_in p (placed_document n p k b ∷ []))) (doc_in-others p ds)
+    ∙ doc_in-one p (placed_document n p k b) (same_itself p)
 
-pub doc_in-put_other : (n : ℕ) (p q : Path) (k b : List ℕ) (ds : List Placed) → p ≢ q → doc_in q (others p ds ++ placed n p k b ∷ []) ≡ doc_in q ds
+pub doc_in-put_other : (n : ℕ) (p q : Path) (k b : List ℕ) (ds : List Placed) → p ≢ q → doc_in q (others p ds ++ placed_document n p k b ∷ []) ≡ doc_in q ds
 doc_in-put_other n p q k b ds other =
-    doc_in-append q (others p ds) (placed n p k b ∷ [])
-    ∙ ap (option_or (doc_in q (others p ds))) (doc_in-none q (placed n p k b) (not_same q p (λ same. other (sym same))))
+    doc_in-append q (others p ds) (placed_document n p k b ∷ [])
+    ∙ ap (option_or (doc_in q (others p ds))) (doc_in-none q (placed_document n p k b) (not_same q p (λ same. other (sym same))))
     ∙ or_none (doc_in q (others p ds)) ∙ doc_in-others_other p q ds other
 
 -- ---- documents below a folder
@@ -97,7 +97,7 @@ doc_in-quiet f q n (Revoke t) ds clear below = refl
 
 -- and so is whether there are any
 pub has_below-quiet : (f : Path) (n : ℕ) (r : Record) (ds : List Placed) → writes_below f r ≡ false → has_below f (docs_after n r ds) ≡ has_below f ds
-has_below-quiet f n (Put p k b w) ds clear = has_below-push f (others p ds) (placed n p k b) clear ∙ has_below-others f p ds clear
+has_below-quiet f n (Put p k b w) ds clear = has_below-push f (others p ds) (placed_document n p k b) clear ∙ has_below-others f p ds clear
 has_below-quiet f n (Remove p w) ds clear = has_below-others f p ds clear
 has_below-quiet f n (Grant t s) ds clear = refl
 has_below-quiet f n (Revoke t) ds clear = refl

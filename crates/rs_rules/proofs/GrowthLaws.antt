@@ -4,35 +4,37 @@ use Rattle.std.specs.Prelude.{◌==◌}
 use Rattle.std.proofs.lemmas.Bool.{cond-true}
 use Rattle.std.proofs.lemmas.List.Elements.{filter-append}
 use Rattle.std.proofs.Math.Seq.{take-append_seam}
+use Rattle.rs_path.specs.declared.log_entry.LogEntry.{LogEntry}
+use Rattle.rs_path.specs.Logs.{own}
 use Rattle.rs_record.specs.declared.records.Record.{Record}
-use Rattle.rs_rules.specs.declared.log_entry.LogEntry.{LogEntry}
 use Rattle.rs_rules.specs.declared.request.Request.{Request}
 use Rattle.rs_rules.specs.declared.reply.Reply.{Reply}
 use Rattle.rs_rules.specs.Histories.{History, len, with_entries, up_to, IsFront}
 use Rattle.rs_rules.specs.Answers.{answer, taken, entry_of}
-use Rattle.rs_rules.specs.Growth.{own, Grows, GrowsByOthers}
+use Rattle.rs_rules.specs.Growth.{Grows, GrowsByOthers}
 
 pub front-itself : (h : History) → IsFront h h
-front-itself h = record { same = refl; rest = []; goes_on = sym (append-nil h.entries) }
+front-itself h = record { same = refl; entries = ([], sym (append-nil h.entries)) }
 
 pub front-trans : (a b c : History) → IsFront a b → IsFront b c → IsFront a c
 front-trans a b c first second = record {
   same = second.same ∙ first.same;
-  rest = first.rest ++ second.rest;
-  goes_on = second.goes_on ∙ ap (λ es. es ++ second.rest) first.goes_on ∙ append_assoc a.entries first.rest second.rest;
+  entries = (
+    first.entries.0 ++ second.entries.0,
+    second.entries.1 ∙ ap (λ es. es ++ second.entries.0) first.entries.1 ∙ append_assoc a.entries first.entries.0 second.entries.0,
+  );
 }
 
 pub front-up_to : (h : History) (n : ℕ) → IsFront (up_to n h) h
 front-up_to h n = record {
   same = refl;
-  rest = drop (n - h.base.cut) h.entries;
-  goes_on = sym (take-append-drop (n - h.base.cut) h.entries);
+  entries = (drop (n - h.base.cut) h.entries, sym (take-append-drop (n - h.base.cut) h.entries));
 }
 
-pub front-with_entries : (h : History) (es : List LogEntry) → IsFront h (with_entries h es)
-front-with_entries h es = record { same = refl; rest = es; goes_on = refl }
+pub front-with_entries : (h : History) (es : List (LogEntry Record)) → IsFront h (with_entries h es)
+front-with_entries h es = record { same = refl; entries = (es, refl) }
 
-pub up_to-len : (h : History) (es : List LogEntry) → up_to (len h) (with_entries h es) ≡ h
+pub up_to-len : (h : History) (es : List (LogEntry Record)) → up_to (len h) (with_entries h es) ≡ h
 up_to-len h es =
     let count : len h - h.base.cut ≡ length h.entries = omega arith in
     ap (λ l. record { base = h.base; entries = l }) (ap (λ k. take k (h.entries ++ es)) count ∙ take-append_seam h.entries es)
@@ -52,7 +54,7 @@ grows-alone h quota me r =
       before = subst (IsFront h) (sym back) (front-itself h);
       replied = ap (λ g. answer g quota r) (sym back);
       added = ap (λ g. with_entries g (entry_of me (taken g quota r))) (sym back);
-      mine = filter-append (λ (e : LogEntry). e.who == me) h.entries more
+      mine = filter-append (λ (e : LogEntry Record). e.who == me) h.entries more
           ∙ ap (λ es. own me h.entries ++ es) (own-entry_of me (taken h quota r))
           ∙ ap (λ g. own me h.entries ++ entry_of me (taken g quota r)) (sym back);
     }

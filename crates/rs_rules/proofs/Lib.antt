@@ -1,18 +1,17 @@
-pub mod FindLemmas
-pub mod Replay
-pub mod DocLemmas
-pub mod StepLaws
-pub mod VersionLaws
-pub mod PointLaws
-pub mod LawfulLaws
-pub mod SettleLaws
-pub mod GrowthLaws
-pub mod TakenLaws
-pub mod SoundLaws
-pub mod ListingLaws
-pub mod ItemLaws
-pub mod LiveLaws
-pub mod ReadingLemmas
-pub mod Samples
-pub mod Examples
-pub mod StepTable
+pub mod Cited
+mod FindLemmas
+mod Replay
+mod DocLemmas
+mod StepLaws
+mod VersionLaws
+mod PointLaws
+mod LawfulLaws
+mod SettleLaws
+mod GrowthLaws
+mod TakenLaws
+mod SoundLaws
+mod ListingLaws
+mod RoomLaws
+mod ItemLaws
+mod LiveLaws
+mod ReadingLemmas

@@ -7,10 +7,10 @@ use Rattle.std.proofs.lemmas.Bool.{cases_Bool, cond-true, cond-false, cond_both,
 use Rattle.std.proofs.lemmas.List.Folds.{list_any-append}
 use Rattle.rs_path.specs.Paths.{Path, same_path, is_nil, is_root}
 use Rattle.rs_path.specs.Below.{is_below, is_inside}
+use Rattle.rs_path.specs.declared.log_entry.LogEntry.{LogEntry}
 use Rattle.rs_path.proofs.Cited.{is_below-trans}
 use Rattle.rs_record.specs.declared.records.Record.{Record}
 use Rattle.rs_record.specs.declared.records.Record.TheVariants.{Put, Remove, Grant, Revoke}
-use Rattle.rs_rules.specs.declared.log_entry.LogEntry.{LogEntry}
 use Rattle.rs_rules.specs.declared.placed.Placed.{Placed}
 use Rattle.rs_rules.specs.Histories.{History, len, with_entries, replay}
 use Rattle.rs_rules.specs.Documents.{docs, docs_after, doc_in, doc_at, has_below}
@@ -21,8 +21,8 @@ use Rattle.rs_rules.proofs.Replay.{replay-append}
 use Rattle.rs_rules.proofs.DocLemmas.{doc_in-quiet, has_below-quiet, is_there-quiet, same_from}
 
 -- an entry writes below the folder
-abbrev pub touches : Path → List LogEntry → Bool
-touches f es = list_any (λ (e : LogEntry). writes_below f e.what) es
+abbrev pub touches : Path → List (LogEntry Record) → Bool
+touches f es = list_any (λ (e : LogEntry Record). writes_below f e.what) es
 
 -- the last number of a record below the folder
 abbrev pub note : Path → ℕ → Record → ℕ → ℕ
@@ -30,7 +30,7 @@ note f n what last = if writes_below f what then n else last
 
 -- ---- the last number below a folder, over entries
 
-pub note-quiet : (f : Path) (n v : ℕ) (es : List LogEntry) → touches f es ≡ false → replay (note f) n v es ≡ v
+pub note-quiet : (f : Path) (n v : ℕ) (es : List (LogEntry Record)) → touches f es ≡ false → replay (note f) n v es ≡ v
 note-quiet f n v [] quiet = refl
 note-quiet f n v (e ∷ es) quiet =
     let parts = or_parts (writes_below f e.what) (touches f es) quiet in
@@ -40,7 +40,7 @@ first_touches : (b c : Bool) → (b || c) ≡ true → c ≡ false → b ≡ tru
 first_touches true c either clear = refl
 first_touches false c either clear = absurd (true≢false (sym either ∙ clear))
 
-pub note-any : (f : Path) (n v : ℕ) (es : List LogEntry) → touches f es ≡ true → n < replay (note f) n v es
+pub note-any : (f : Path) (n v : ℕ) (es : List (LogEntry Record)) → touches f es ≡ true → n < replay (note f) n v es
 note-any f n v [] touched = absurd (true≢false (sym touched))
 note-any f n v (e ∷ es) touched =
     ⊎_elim
@@ -51,7 +51,7 @@ note-any f n v (e ∷ es) touched =
     omega (arith, last))
     (cases_Bool (touches f es))
 
-pub note-any_same : (f : Path) (n v w : ℕ) (es : List LogEntry) → touches f es ≡ true → replay (note f) n v es ≡ replay (note f) n w es
+pub note-any_same : (f : Path) (n v w : ℕ) (es : List (LogEntry Record)) → touches f es ≡ true → replay (note f) n v es ≡ replay (note f) n w es
 note-any_same f n v w [] touched = absurd (true≢false (sym touched))
 note-any_same f n v w (e ∷ es) touched =
     ⊎_elim
@@ -63,14 +63,14 @@ note-any_same f n v w (e ∷ es) touched =
 note-within : (f : Path) (n v : ℕ) (r : Record) → v ≤ n → note f (n + 1) r v ≤ n + 1
 note-within f n v r small = cond_both (writes_below f r) (n + 1) v (λ k. k ≤ n + 1) (λ hit. omega arith) (λ clear. omega arith)
 
-pub note-le : (f : Path) (n v : ℕ) (es : List LogEntry) → v ≤ n → replay (note f) n v es ≤ n + length es
+pub note-le : (f : Path) (n v : ℕ) (es : List (LogEntry Record)) → v ≤ n → replay (note f) n v es ≤ n + length es
 note-le f n v [] small = omega arith
 note-le f n v (e ∷ es) small =
     let rest : replay (note f) (n + 1) (note f (n + 1) e.what v) es ≤ (n + 1) + length es = note-le f (n + 1) (note f (n + 1) e.what v) es (note-within f n v e.what small) in
     omega (arith, rest)
 
 -- it is the greatest number of those that write below
-pub note-greatest : (f : Path) (n v : ℕ) (es : List LogEntry) → v ≤ n → replay (note f) n v es ≡ fold max v (numbers_below f n es)
+pub note-greatest : (f : Path) (n v : ℕ) (es : List (LogEntry Record)) → v ≤ n → replay (note f) n v es ≡ fold max v (numbers_below f n es)
 note-greatest f n v [] small = refl
 note-greatest f n v (e ∷ es) small =
     ⊎_elim
@@ -91,7 +91,7 @@ note-first f n v r ds before there some =
     cond_both (writes_below f r) n v (λ k. 0 < k) (λ hit. some) (λ clear. before (sym (has_below-quiet f n r ds clear) ∙ there))
 
 -- a folder with a document below it has a number
-pub note-positive : (f : Path) (n v : ℕ) (ds : List Placed) (es : List LogEntry) → (has_below f ds ≡ true → 0 < v)
+pub note-positive : (f : Path) (n v : ℕ) (ds : List Placed) (es : List (LogEntry Record)) → (has_below f ds ≡ true → 0 < v)
     → has_below f (replay docs_after n ds es) ≡ true → 0 < replay (note f) n v es
 note-positive f n v ds [] before there = before there
 note-positive f n v ds (e ∷ es) before there =
@@ -99,14 +99,14 @@ note-positive f n v ds (e ∷ es) before there =
 
 -- ---- documents below a folder, over entries that write nothing there
 
-pub doc_in-untouched : (f q : Path) (n : ℕ) (ds : List Placed) (es : List LogEntry) → touches f es ≡ false → is_below f q ≡ true
+pub doc_in-untouched : (f q : Path) (n : ℕ) (ds : List Placed) (es : List (LogEntry Record)) → touches f es ≡ false → is_below f q ≡ true
     → doc_in q (replay docs_after n ds es) ≡ doc_in q ds
 doc_in-untouched f q n ds [] quiet below = refl
 doc_in-untouched f q n ds (e ∷ es) quiet below =
     let parts = or_parts (writes_below f e.what) (touches f es) quiet in
     doc_in-untouched f q (n + 1) (docs_after (n + 1) e.what ds) es parts.1 below ∙ doc_in-quiet f q (n + 1) e.what ds parts.0 below
 
-pub is_there-untouched : (f : Path) (n : ℕ) (ds : List Placed) (es : List LogEntry) → touches f es ≡ false → is_there f (replay docs_after n ds es) ≡ is_there f ds
+pub is_there-untouched : (f : Path) (n : ℕ) (ds : List Placed) (es : List (LogEntry Record)) → touches f es ≡ false → is_there f (replay docs_after n ds es) ≡ is_there f ds
 is_there-untouched f n ds [] quiet = refl
 is_there-untouched f n ds (e ∷ es) quiet =
     let parts = or_parts (writes_below f e.what) (touches f es) quiet in
@@ -121,7 +121,7 @@ writes_below-trans f g (Remove p w) below clear = no_path_below f g p below clea
 writes_below-trans f g (Grant t s) below clear = refl
 writes_below-trans f g (Revoke t) below clear = refl
 
-pub touches-below : (f g : Path) (es : List LogEntry) → is_below f g ≡ true → touches f es ≡ false → touches g es ≡ false
+pub touches-below : (f g : Path) (es : List (LogEntry Record)) → is_below f g ≡ true → touches f es ≡ false → touches g es ≡ false
 touches-below f g [] below quiet = refl
 touches-below f g (e ∷ es) below quiet =
     let parts = or_parts (writes_below f e.what) (touches f es) quiet in
@@ -153,16 +153,16 @@ is_root-below f g below = and_right g.folder (is_nil g.names) (inside_some f.nam
 
 -- ---- histories
 
-pub docs-with_entries : (h : History) (es : List LogEntry) → docs (with_entries h es) ≡ replay docs_after (len h) (docs h) es
+pub docs-with_entries : (h : History) (es : List (LogEntry Record)) → docs (with_entries h es) ≡ replay docs_after (len h) (docs h) es
 docs-with_entries h es = replay-append docs_after h.base.cut h.base.docs h.entries es
 
-pub last_below-with_entries : (h : History) (es : List LogEntry) (f : Path) → last_below (with_entries h es) f ≡ replay (note f) (len h) (last_below h f) es
+pub last_below-with_entries : (h : History) (es : List (LogEntry Record)) (f : Path) → last_below (with_entries h es) f ≡ replay (note f) (len h) (last_below h f) es
 last_below-with_entries h es f = replay-append (note f) h.base.cut (h.base.versions f) h.entries es
 
-pub with_entries-twice : (h : History) (es fs : List LogEntry) → with_entries (with_entries h es) fs ≡ with_entries h (es ++ fs)
+pub with_entries-twice : (h : History) (es fs : List (LogEntry Record)) → with_entries (with_entries h es) fs ≡ with_entries h (es ++ fs)
 with_entries-twice h es fs = ap (λ l. record { base = h.base; entries = l }) (append_assoc h.entries es fs)
 
-pub folder_version-untouched : (h : History) (es : List LogEntry) (f : Path) → touches f es ≡ false → folder_version (with_entries h es) f ≡ folder_version h f
+pub folder_version-untouched : (h : History) (es : List (LogEntry Record)) (f : Path) → touches f es ≡ false → folder_version (with_entries h es) f ≡ folder_version h f
 folder_version-untouched h es f quiet =
     ap (λ b. cond b (last_below (with_entries h es) f) 0) (ap (is_there f) (docs-with_entries h es) ∙ is_there-untouched f (len h) (docs h) es quiet)
     ∙ ap (λ v. cond (is_there f (docs h)) v 0) (last_below-with_entries h es f ∙ note-quiet f (len h) (last_below h f) es quiet)
@@ -176,12 +176,12 @@ folder_version-le h f base = cond_both (is_there f (docs h)) (last_below h f) 0 
 pub last_below-positive : (h : History) (f : Path) → HasVersions h.base → has_below f (docs h) ≡ true → 0 < last_below h f
 last_below-positive h f base there = note-positive f h.base.cut (h.base.versions f) h.base.docs h.entries (base.there f) there
 
-last_below-touched : (h : History) (es : List LogEntry) (f : Path) → touches f es ≡ true → len h < last_below (with_entries h es) f
+last_below-touched : (h : History) (es : List (LogEntry Record)) (f : Path) → touches f es ≡ true → len h < last_below (with_entries h es) f
 last_below-touched h es f touched =
     subst (λ v. len h < v) (sym (last_below-with_entries h es f)) (note-any f (len h) (last_below h f) es touched)
 
 -- a folder that was written below has its old version only where it is gone, and then that is 0
-gone : (h : History) (es : List LogEntry) (f : Path) → HasVersions h.base → touches f es ≡ true → folder_version (with_entries h es) f ≡ folder_version h f
+gone : (h : History) (es : List (LogEntry Record)) (f : Path) → HasVersions h.base → touches f es ≡ true → folder_version (with_entries h es) f ≡ folder_version h f
     → (is_there f (docs (with_entries h es)) ≡ false) × (folder_version h f ≡ 0)
 gone h es f base touched same =
     ⊎_elim
@@ -193,13 +193,13 @@ gone h es f base touched same =
     (λ away. (away, sym same ∙ cond-false (is_there f (docs (with_entries h es))) (last_below (with_entries h es) f) 0 away))
     (cases_Bool (is_there f (docs (with_entries h es))))
 
-pub never_returns : (h : History) (es fs : List LogEntry) (f : Path) → HasVersions h.base
+pub never_returns : (h : History) (es fs : List (LogEntry Record)) (f : Path) → HasVersions h.base
     → folder_version (with_entries h es) f ≢ folder_version h f
     → folder_version (with_entries (with_entries h es) fs) f ≡ folder_version h f → folder_version h f ≡ 0
 never_returns h es fs f base moved back =
     ⊎_elim
     (λ touched.
-    let either : touches f (es ++ fs) ≡ true = list_any-append (λ (e : LogEntry). writes_below f e.what) es fs ∙ or_left (touches f es) (touches f fs) touched in
+    let either : touches f (es ++ fs) ≡ true = list_any-append (λ (e : LogEntry Record). writes_below f e.what) es fs ∙ or_left (touches f es) (touches f fs) touched in
     (gone h (es ++ fs) f base either (sym (ap (λ (g : History). folder_version g f) (with_entries-twice h es fs)) ∙ back)).1)
     (λ quiet. absurd (moved (folder_version-untouched h es f quiet)))
     (cases_Bool (touches f es))
@@ -220,7 +220,7 @@ same_none h now f before after = record {
   versions = λ q below. version_none now f q below after ∙ sym (version_none h f q below before);
 }
 
-same_untouched : (h : History) (es : List LogEntry) (f : Path) → touches f es ≡ false → SameBelow f h (with_entries h es)
+same_untouched : (h : History) (es : List (LogEntry Record)) (f : Path) → touches f es ≡ false → SameBelow f h (with_entries h es)
 same_untouched h es f quiet = record {
   documents = documents;
   versions = λ q below.
@@ -241,7 +241,7 @@ was_away h f base inner zero =
     let some = last_below-positive h f base there in
     omega (arith, was, some, zero))
 
-pub same_below : (h : History) (es : List LogEntry) (f : Path) → HasVersions h.base
+pub same_below : (h : History) (es : List (LogEntry Record)) (f : Path) → HasVersions h.base
     → folder_version (with_entries h es) f ≡ folder_version h f → SameBelow f h (with_entries h es)
 same_below h es f base same =
     ⊎_elim

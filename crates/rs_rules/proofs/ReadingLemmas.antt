@@ -3,10 +3,10 @@ use Rattle.std.proofs.Common.{◌≡◌, ℕ, ◌+◌, ◌<◌, ◌≤◌, Bool,
 use Rattle.std.specs.Prelude.{◌==◌, if◌then◌else◌}
 use Rattle.std.specs.List.{onto_first}
 use Rattle.std.specs.Option.{option_map}
+use Rattle.std.proofs.lemmas.Bool.{cases_Bool, cond-true, cond-false}
 use Rattle.rs_path.specs.Tags.{is_tag}
 use Rattle.rs_rules.specs.declared.entity_tag.EntityTag.{EntityTag}
-use Rattle.std.proofs.lemmas.Bool.{cases_Bool, cond-true, cond-false}
-use Rattle.rs_rules.specs.CondReadings.{is_blank, is_quote, cut_items, item_len, quoted_text, is_marked, unmarked, tag_at, item_from, item_reading, with_item}
+use Rattle.rs_rules.specs.CondReadings.{is_blank, is_quote, cut_items, item_len, quoted_text, is_marked, unmarked, tag_or_place, item_from, cond_item_reading, with_item}
 
 -- whether what follows a byte is in quotes
 abbrev after : ℕ → Bool → Bool
@@ -54,10 +54,10 @@ cut_whole quoted (byte ∷ bytes) outside =
 
 -- an item with a tag is read as that tag
 pub item_read : (item text : List ℕ) (start : ℕ) → Some start ≡ position (λ byte. not (is_blank byte)) item → Some text ≡ quoted_text (unmarked (drop start item))
-    → item_reading item ≡ Ok (Some (record { weak = is_marked (drop start item); tag = text }))
+    → cond_item_reading item ≡ Ok (Some (record { weak = is_marked (drop start item); tag = text }))
 item_read item text start first told =
     ap (λ o. item_from o item) (sym first)
-    ∙ ap (λ o. tag_at start (option_map (λ (t : List ℕ). record { weak = is_marked (drop start item); tag = t }) o)) (sym told)
+    ∙ ap (λ o. tag_or_place start (option_map (λ (t : List ℕ). record { weak = is_marked (drop start item); tag = t }) o)) (sym told)
 
 -- a text that is read as a tag is one
 pub read_some : (text tag : List ℕ) → Some tag ≡ (if is_tag text then Some text else None) → (tag ≡ text) × (is_tag text ≡ true)

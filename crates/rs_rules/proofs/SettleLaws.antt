@@ -4,8 +4,9 @@ use Rattle.std.proofs.Math.Path.{fun_ext}
 use Rattle.std.specs.Prelude.{IsTrue}
 use Rattle.std.proofs.lemmas.Bool.{cases_Bool}
 use Rattle.rs_path.specs.Paths.{Path}
+use Rattle.rs_path.specs.declared.log_entry.LogEntry.{LogEntry}
 use Rattle.rs_scope.specs.declared.scope.Scope.{Scope}
-use Rattle.rs_rules.specs.declared.log_entry.LogEntry.{LogEntry}
+use Rattle.rs_record.specs.declared.records.Record.{Record}
 use Rattle.rs_rules.specs.declared.placed.Placed.{Placed}
 use Rattle.rs_rules.specs.Histories.{History, len, with_entries, up_to, IsPoint}
 use Rattle.rs_rules.specs.Documents.{docs, doc_in}
@@ -18,17 +19,17 @@ use Rattle.rs_rules.specs.Settled.{settled, settle}
 use Rattle.rs_rules.proofs.Replay.{replay-append}
 use Rattle.rs_rules.proofs.PointLaws.{touches, note-quiet, note-any_same, is_there-untouched, docs-with_entries, last_below-with_entries, with_entries-twice, folder_version-untouched}
 
-docs-settled : (h : History) (es : List LogEntry) → docs (settled h es) ≡ docs (with_entries h es)
+docs-settled : (h : History) (es : List (LogEntry Record)) → docs (settled h es) ≡ docs (with_entries h es)
 docs-settled h es = sym (docs-with_entries h es)
 
-scopes-settled : (h : History) (es : List LogEntry) (t : List ℕ) → scopes_of (settled h es) t ≡ scopes_of (with_entries h es) t
+scopes-settled : (h : History) (es : List (LogEntry Record)) (t : List ℕ) → scopes_of (settled h es) t ≡ scopes_of (with_entries h es) t
 scopes-settled h es t = sym (replay-append (scopes_after t) h.base.cut (h.base.tokens t) h.entries es)
 
 cond_twice : (b : Bool) (v : ℕ) → cond b (cond b v 0) 0 ≡ cond b v 0
 cond_twice true v = refl
 cond_twice false v = refl
 
-folder_version-settled : (h : History) (es : List LogEntry) (f : Path) → folder_version (settled h es) f ≡ folder_version (with_entries h es) f
+folder_version-settled : (h : History) (es : List (LogEntry Record)) (f : Path) → folder_version (settled h es) f ≡ folder_version (with_entries h es) f
 folder_version-settled h es f =
     ⊎_elim
     (λ touched. ap (λ b. cond b (last_below (settled h es) f) 0) (ap (is_there f) (docs-settled h es))
@@ -40,19 +41,19 @@ folder_version-settled h es f =
     ∙ sym (folder_version-untouched h es f quiet))
     (cases_Bool (touches f es))
 
-ver-settled : (h : History) (es : List LogEntry) (p : Path) → ver (settled h es) p ≡ ver (with_entries h es) p
+ver-settled : (h : History) (es : List (LogEntry Record)) (p : Path) → ver (settled h es) p ≡ ver (with_entries h es) p
 ver-settled h es p =
     ap (cond p.folder (folder_version (settled h es) p)) (ap (λ ds. doc_version (doc_in p ds)) (docs-settled h es))
     ∙ ap (λ v. cond p.folder v (doc_version (doc_in p (docs (with_entries h es))))) (folder_version-settled h es p)
 
-contents-settled : (h : History) (es : List LogEntry) → contents (settled h es) ≡ contents (with_entries h es)
+contents-settled : (h : History) (es : List (LogEntry Record)) → contents (settled h es) ≡ contents (with_entries h es)
 contents-settled h es =
     let make : List Placed → (Path → ℕ) → Contents = λ ds v. record { docs = ds; version = v } in
     ap (λ ds. make ds (λ p. ver (settled h es) p)) (docs-settled h es)
     ∙ ap (make (docs (with_entries h es))) (fun_ext (λ p. ver-settled h es p))
 
 -- all that an answer looks at is the same
-pub snapshot-settled : (h : History) (es : List LogEntry) → snapshot (settled h es) ≡ snapshot (with_entries h es)
+pub snapshot-settled : (h : History) (es : List (LogEntry Record)) → snapshot (settled h es) ≡ snapshot (with_entries h es)
 snapshot-settled h es =
     let make : ℕ → Contents → (List ℕ → Option (List Scope)) → Snapshot = λ n w t. record { len = n; contents = w; scopes = t } in
     let long : len (settled h es) ≡ len (with_entries h es) = omega (arith, length-append h.entries es) in
@@ -61,7 +62,7 @@ snapshot-settled h es =
     ∙ ap (make (len (with_entries h es)) (contents (with_entries h es))) (fun_ext (λ t. scopes-settled h es t))
 
 -- what follows rightly on the whole history follows rightly on the settled one
-pub follow-settled : (h : History) (es fs : List LogEntry) → AllFollow (with_entries h es) fs → AllFollow (settled h es) fs
+pub follow-settled : (h : History) (es fs : List (LogEntry Record)) → AllFollow (with_entries h es) fs → AllFollow (settled h es) fs
 follow-settled h es [] each = tt
 follow-settled h es (f ∷ fs) each = (
   subst (λ (s : Snapshot). IsTrue (may_follow s f.what)) (sym (snapshot-settled h es)) each.0,

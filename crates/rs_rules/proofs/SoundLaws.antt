@@ -6,15 +6,16 @@ use Rattle.std.proofs.lemmas.Bool.{cases_Bool, cond_both, and_parts, and_from, t
 use Rattle.std.proofs.lemmas.Bool.Decides.{nat_tests}
 use Rattle.std.proofs.lemmas.List.Folds.{list_all-append}
 use Rattle.std.proofs.lemmas.List.Sums.{sum_by-cons, sum_by_push}
+use Rattle.rs_path.specs.Limits.{max_body, max_plain_body}
 use Rattle.rs_path.specs.Paths.{Path, same_path}
+use Rattle.rs_path.specs.declared.log_entry.LogEntry.{LogEntry}
 use Rattle.rs_record.specs.declared.records.Record.{Record}
 use Rattle.rs_record.specs.declared.records.Record.TheVariants.{Put, Remove, Grant, Revoke}
-use Rattle.rs_rules.specs.declared.log_entry.LogEntry.{LogEntry}
-use Rattle.rs_rules.specs.declared.placed.Placed.{Placed}
 use Rattle.rs_record.specs.Records.{body_limit}
+use Rattle.rs_rules.specs.declared.placed.Placed.{Placed}
 use Rattle.rs_rules.specs.Limits.{max_len}
 use Rattle.rs_rules.specs.Histories.{History, len, with_entry}
-use Rattle.rs_rules.specs.Documents.{others, placed, docs, docs_after, doc_in, live_in}
+use Rattle.rs_rules.specs.Documents.{others, placed_document, docs, docs_after, doc_in, live_in}
 use Rattle.rs_rules.specs.Versions.{doc_version, folder_version, ver}
 use Rattle.rs_rules.specs.Snapshots.{snapshot}
 use Rattle.rs_rules.specs.Lawful.{may_follow, IsLawful}
@@ -50,7 +51,7 @@ version-after : (n : ℕ) (r : Record) (ds : List Placed) → list_all (λ (d : 
     → list_all (λ (d : Placed). nat_le d.doc.version (n + 1)) (docs_after (n + 1) r ds) ≡ true
 version-after n (Put p k b w) ds each =
     let test : Placed → Bool = λ d. nat_le d.doc.version (n + 1) in
-    push-all test (others p ds) (placed (n + 1) p k b) (all-filter (λ (d : Placed). not (same_path p d.path)) test ds (version-more n ds each)) (at_most (n + 1))
+    push-all test (others p ds) (placed_document (n + 1) p k b) (all-filter (λ (d : Placed). not (same_path p d.path)) test ds (version-more n ds each)) (at_most (n + 1))
 version-after n (Remove p w) ds each =
     let test : Placed → Bool = λ d. nat_le d.doc.version (n + 1) in
     all-filter (λ (d : Placed). not (same_path p d.path)) test ds (version-more n ds each)
@@ -62,7 +63,7 @@ versions-within =
     along_lawful (λ h. list_all (λ (d : Placed). nat_le d.doc.version (len h)) (docs h) ≡ true)
     (λ h e now may. within h e now) refl
   where
-    within : (h : History) (e : LogEntry) → list_all (λ (d : Placed). nat_le d.doc.version (len h)) (docs h) ≡ true
+    within : (h : History) (e : LogEntry Record) → list_all (λ (d : Placed). nat_le d.doc.version (len h)) (docs h) ≡ true
         → list_all (λ (d : Placed). nat_le d.doc.version (len (with_entry h e))) (docs (with_entry h e)) ≡ true
     within h e now =
         ap (λ n. list_all (λ (d : Placed). nat_le d.doc.version n) (docs (with_entry h e))) (len-with_entry h e)
@@ -111,7 +112,7 @@ distinct-push (e ∷ ds) d apart each =
 
 pub distinct-after : (n : ℕ) (r : Record) (ds : List Placed) → are_distinct ds ≡ true → are_distinct (docs_after n r ds) ≡ true
 distinct-after n (Put p k b w) ds each =
-    distinct-push (others p ds) (placed n p k b) (all-filter_itself (λ (d : Placed). not (same_path p d.path)) ds) (distinct-filter (λ (d : Placed). not (same_path p d.path)) ds each)
+    distinct-push (others p ds) (placed_document n p k b) (all-filter_itself (λ (d : Placed). not (same_path p d.path)) ds) (distinct-filter (λ (d : Placed). not (same_path p d.path)) ds each)
 distinct-after n (Remove p w) ds each = distinct-filter (λ (d : Placed). not (same_path p d.path)) ds each
 distinct-after n (Grant t s) ds each = each
 distinct-after n (Revoke t) ds each = each
@@ -127,7 +128,7 @@ distinct-lawful =
 documents-after : (h : History) (n : ℕ) (r : Record) (ds : List Placed) → are_documents ds ≡ true → may_follow (snapshot h) r ≡ true → are_documents (docs_after n r ds) ≡ true
 documents-after h n (Put p k b w) ds each may =
     let test : Placed → Bool = λ d. not d.path.folder in
-    push-all test (others p ds) (placed n p k b) (all-filter (λ (d : Placed). not (same_path p d.path)) test ds each) (and_parts (not p.folder) _ may).0
+    push-all test (others p ds) (placed_document n p k b) (all-filter (λ (d : Placed). not (same_path p d.path)) test ds each) (and_parts (not p.folder) _ may).0
 documents-after h n (Remove p w) ds each may = all-filter (λ (d : Placed). not (same_path p d.path)) (λ (d : Placed). not d.path.folder) ds each
 documents-after h n (Grant t s) ds each may = each
 documents-after h n (Revoke t) ds each may = each
@@ -152,34 +153,34 @@ live-others p (d ∷ ds) =
     cond_both (not (same_path p d.path)) (d ∷ others p ds) (others p ds) (λ l. live_in l ≤ live_in (d ∷ ds))
     (λ other. omega (arith, rest, all, kept)) (λ same. omega (arith, rest, all))
 
-short-body : (b : List ℕ) (w : Option (List ℕ)) → nat_le (length b) (body_limit w) ≡ true → length b ≤ 67108864
-short-body b None short = let low : length b ≤ 16777216 = leb-true _ _ short in omega (arith, low)
+short-body : (b : List ℕ) (w : Option (List ℕ)) → nat_le (length b) (body_limit w) ≡ true → length b ≤ max_body
+short-body b None short = let low : length b ≤ max_plain_body = leb-true _ _ short in omega (arith, low)
 short-body b (Some t) short = leb-true _ _ short
 
-live-after : (h : History) (n : ℕ) (r : Record) (ds : List Placed) → may_follow (snapshot h) r ≡ true → live_in (docs_after n r ds) ≤ live_in ds + 67108864
+live-after : (h : History) (n : ℕ) (r : Record) (ds : List Placed) → may_follow (snapshot h) r ≡ true → live_in (docs_after n r ds) ≤ live_in ds + max_body
 live-after h n (Put p k b w) ds may =
-    let short : length b ≤ 67108864 = short-body b w (and_parts (nat_le (length b) (body_limit w)) _ (and_parts (not p.folder) _ may).1).0 in
+    let short : length b ≤ max_body = short-body b w (and_parts (nat_le (length b) (body_limit w)) _ (and_parts (not p.folder) _ may).1).0 in
     let kept = live-others p ds in
-    let all = sum_by_push (λ (e : Placed). length e.doc.body) (others p ds) (placed n p k b) in
+    let all = sum_by_push (λ (e : Placed). length e.doc.body) (others p ds) (placed_document n p k b) in
     omega (arith, short, kept, all)
 live-after h n (Remove p w) ds may = let kept = live-others p ds in omega (arith, kept)
 live-after h n (Grant t s) ds may = omega arith
 live-after h n (Revoke t) ds may = omega arith
 
-live-len : (h : History) → IsLawful h → live_in (docs h) ≤ len h * 67108864
+live-len : (h : History) → IsLawful h → live_in (docs h) ≤ len h * max_body
 live-len =
-    along_lawful (λ h. live_in (docs h) ≤ len h * 67108864) step (omega arith)
+    along_lawful (λ h. live_in (docs h) ≤ len h * max_body) step (omega arith)
   where
-    step : (h : History) (e : LogEntry) → live_in (docs h) ≤ len h * 67108864 → IsTrue (may_follow (snapshot h) e.what)
-        → live_in (docs (with_entry h e)) ≤ len (with_entry h e) * 67108864
+    step : (h : History) (e : LogEntry Record) → live_in (docs h) ≤ len h * max_body → IsTrue (may_follow (snapshot h) e.what)
+        → live_in (docs (with_entry h e)) ≤ len (with_entry h e) * max_body
     step h e now may =
-        let after : live_in (docs_after (len h + 1) e.what (docs h)) ≤ live_in (docs h) + 67108864 = live-after h (len h + 1) e.what (docs h) may in
+        let after : live_in (docs_after (len h + 1) e.what (docs h)) ≤ live_in (docs h) + max_body = live-after h (len h + 1) e.what (docs h) may in
         let same : live_in (docs (with_entry h e)) ≡ live_in (docs_after (len h + 1) e.what (docs h)) = ap live_in (docs-with_entry h e) in
         let long : len (with_entry h e) ≡ len h + 1 = len-with_entry h e in
         rw long (omega (arith, now, after, same))
 
 -- the bodies of a lawful history and one more body fit into 64 bits
-pub live-room : (h : History) (b : List ℕ) → IsLawful h → length b ≤ 67108864 → live_in (docs h) + length b < 2 ^ 64
+pub live-room : (h : History) (b : List ℕ) → IsLawful h → length b ≤ max_body → live_in (docs h) + length b < 2 ^ 64
 live-room h b law short =
     let sum = live-len h law in
     let few : len h ≤ max_len = law.few in

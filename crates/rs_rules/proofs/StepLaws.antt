@@ -4,7 +4,8 @@ use Rattle.std.proofs.Math.Path.{fun_ext}
 use Rattle.std.specs.Prelude.{if◌then◌else◌}
 use Rattle.std.proofs.lemmas.Bool.{cases_Bool, cond-true, cond-false}
 use Rattle.rs_path.specs.Paths.{Path}
-use Rattle.rs_rules.specs.declared.log_entry.LogEntry.{LogEntry}
+use Rattle.rs_path.specs.declared.log_entry.LogEntry.{LogEntry}
+use Rattle.rs_record.specs.declared.records.Record.{Record}
 use Rattle.rs_rules.specs.declared.placed.Placed.{Placed}
 use Rattle.rs_rules.specs.Histories.{History, len, with_entry}
 use Rattle.rs_rules.specs.Documents.{docs, docs_after, doc_in}
@@ -14,23 +15,23 @@ use Rattle.rs_rules.specs.Contents.{Contents, contents, version_after, contents_
 use Rattle.rs_rules.proofs.Replay.{replay-push}
 use Rattle.rs_rules.proofs.DocLemmas.{is_there-quiet}
 
-pub docs-with_entry : (h : History) (e : LogEntry) → docs (with_entry h e) ≡ docs_after (len h + 1) e.what (docs h)
+pub docs-with_entry : (h : History) (e : LogEntry Record) → docs (with_entry h e) ≡ docs_after (len h + 1) e.what (docs h)
 docs-with_entry h e = replay-push docs_after h.base.cut h.base.docs h.entries e
 
-pub last_below-with_entry : (h : History) (e : LogEntry) (f : Path) → last_below (with_entry h e) f ≡ (if writes_below f e.what then len h + 1 else last_below h f)
+pub last_below-with_entry : (h : History) (e : LogEntry Record) (f : Path) → last_below (with_entry h e) f ≡ (if writes_below f e.what then len h + 1 else last_below h f)
 last_below-with_entry h e f =
     replay-push (λ n what last. if writes_below f what then n else last) h.base.cut (h.base.versions f) h.entries e
 
-pub scopes_of-with_entry : (h : History) (e : LogEntry) (t : List ℕ) → scopes_of (with_entry h e) t ≡ scopes_after t (len h + 1) e.what (scopes_of h t)
+pub scopes_of-with_entry : (h : History) (e : LogEntry Record) (t : List ℕ) → scopes_of (with_entry h e) t ≡ scopes_after t (len h + 1) e.what (scopes_of h t)
 scopes_of-with_entry h e t = replay-push (scopes_after t) h.base.cut (h.base.tokens t) h.entries e
 
 -- ---- versions
 
-is_there-with_entry : (h : History) (e : LogEntry) (f : Path) → is_there f (docs (with_entry h e)) ≡ is_there f (docs_after (len h + 1) e.what (docs h))
+is_there-with_entry : (h : History) (e : LogEntry Record) (f : Path) → is_there f (docs (with_entry h e)) ≡ is_there f (docs_after (len h + 1) e.what (docs h))
 is_there-with_entry h e f = ap (is_there f) (docs-with_entry h e)
 
 -- a record below the folder gives its number to the folder, if that is still there
-pub folder_version-written : (h : History) (e : LogEntry) (f : Path) → writes_below f e.what ≡ true
+pub folder_version-written : (h : History) (e : LogEntry Record) (f : Path) → writes_below f e.what ≡ true
     → folder_version (with_entry h e) f ≡ (if is_there f (docs_after (len h + 1) e.what (docs h)) then len h + 1 else 0)
 folder_version-written h e f hit =
     ap (λ b. cond b (last_below (with_entry h e) f) 0) (is_there-with_entry h e f)
@@ -38,14 +39,14 @@ folder_version-written h e f hit =
     (last_below-with_entry h e f ∙ cond-true (writes_below f e.what) (len h + 1) (last_below h f) hit)
 
 -- any other record leaves the folder's version
-pub folder_version-quiet : (h : History) (e : LogEntry) (f : Path) → writes_below f e.what ≡ false
+pub folder_version-quiet : (h : History) (e : LogEntry Record) (f : Path) → writes_below f e.what ≡ false
     → folder_version (with_entry h e) f ≡ folder_version h f
 folder_version-quiet h e f clear =
     ap (λ b. cond b (last_below (with_entry h e) f) 0) (is_there-with_entry h e f ∙ is_there-quiet f (len h + 1) e.what (docs h) clear)
     ∙ ap (λ v. cond (is_there f (docs h)) v 0)
     (last_below-with_entry h e f ∙ cond-false (writes_below f e.what) (len h + 1) (last_below h f) clear)
 
-folder_step : (h : History) (e : LogEntry) (f : Path)
+folder_step : (h : History) (e : LogEntry Record) (f : Path)
     → folder_version (with_entry h e) f
     ≡ (if writes_below f e.what then (if is_there f (docs_after (len h + 1) e.what (docs h)) then len h + 1 else 0) else folder_version h f)
 folder_step h e f =
@@ -54,7 +55,7 @@ folder_step h e f =
     (λ clear. folder_version-quiet h e f clear ∙ sym (cond-false (writes_below f e.what) _ _ clear))
     (cases_Bool (writes_below f e.what))
 
-pub ver-with_entry : (h : History) (e : LogEntry) (p : Path)
+pub ver-with_entry : (h : History) (e : LogEntry Record) (p : Path)
     → ver (with_entry h e) p ≡ version_after (len h + 1) e.what (docs_after (len h + 1) e.what (docs h)) p (ver h p)
 ver-with_entry h e p =
     ⊎_elim
@@ -65,7 +66,7 @@ ver-with_entry h e p =
     (cases_Bool p.folder)
 
 -- what a tree knows after one more entry follows from what it knew before
-pub contents-with_entry : (h : History) (e : LogEntry) → contents (with_entry h e) ≡ contents_after (len h + 1) e.what (contents h)
+pub contents-with_entry : (h : History) (e : LogEntry Record) → contents (with_entry h e) ≡ contents_after (len h + 1) e.what (contents h)
 contents-with_entry h e =
     let make : List Placed → (Path → ℕ) → Contents = λ ds v. record { docs = ds; version = v } in
     ap (λ ds. make ds (λ p. ver (with_entry h e) p)) (docs-with_entry h e)

@@ -11,6 +11,7 @@ use Rattle.rs_scope.specs.declared.scope.Scope.{Scope}
 use Rattle.rs_scope.specs.Reach.{is_reading, reach_of, is_free_read}
 use Rattle.rs_record.specs.declared.records.Record.{Record}
 use Rattle.rs_record.specs.declared.records.Record.TheVariants.{Put as PutRecord, Remove as RemoveRecord, Grant as GrantRecord, Revoke as RevokeRecord}
+use Rattle.rs_record.specs.Records.{body_limit}
 use Rattle.rs_rules.specs.declared.call.Call.{Call}
 use Rattle.rs_rules.specs.declared.doc.Doc.{Doc}
 use Rattle.rs_rules.specs.declared.pass.Pass.{Pass}
@@ -19,15 +20,14 @@ use Rattle.rs_rules.specs.declared.reply.Reply.{Reply}
 use Rattle.rs_rules.specs.declared.reply.Reply.TheVariants.{Stored, Removed, Same, NoToken, BadToken, Forbidden, FolderWrite, Clash, Absent, Unmet, RecordsFull, OverQuota, FolderFull, Granted, TokenTaken, Revoked, NotGranted}
 use Rattle.rs_rules.specs.declared.request.Request.{Request}
 use Rattle.rs_rules.specs.declared.request.Request.TheVariants.{Store, Grant, Revoke}
-use Rattle.rs_record.specs.Records.{body_limit}
 use Rattle.rs_rules.specs.Limits.{max_len}
 use Rattle.rs_rules.specs.Histories.{History, len, with_entry}
 use Rattle.rs_rules.specs.Documents.{doc_in, live_in}
 use Rattle.rs_rules.specs.Clashes.{clash_in, clash_at, full_in}
 use Rattle.rs_rules.specs.Snapshots.{Snapshot, snapshot}
 use Rattle.rs_rules.specs.Requests.{is_within_limit}
-use Rattle.rs_rules.specs.Conditions.{meets, is_named}
-use Rattle.rs_rules.specs.Answers.{is_put, is_write, shows_none, shows_ungranted, falls_short, is_beyond, is_present, version_of, live_after, when, first_of, place_steps, early_steps, limit_steps, shown_doc, shown, last_step, answer_call_in, answer_in, token_of, record_of_call, record_of_grant, record_of_revoke, record_of, taken}
+use Rattle.rs_rules.specs.Conditions.{meets, excludes}
+use Rattle.rs_rules.specs.Answers.{is_put, is_write, shows_none, shows_ungranted, falls_short, is_beyond, is_present, path_version, live_after, when, first_of, place_steps, early_steps, limit_steps, clash_reply, full_reply, shown_doc, shown, last_step, answer_call_in, answer_in, token_of, record_of_call, record_of_grant, record_of_revoke, record_of, taken, brought}
 use Rattle.rs_rules.specs.Lawful.{scopes_reach, writer_may, may_follow, IsLawful}
 use Rattle.rs_rules.specs.Growth.{is_store_failed}
 use Rattle.rs_rules.specs.Laws.{HasReach}
@@ -80,23 +80,23 @@ module _ (test : Reply → Bool)
   early_misses s c =
       let free = is_free_read c.method c.path in
       let there = is_present s c in
-      let version = version_of s c in
+      let version = path_version s c in
       more (misses-when test (not free && shows_none c.pass) NoToken no_token)
       (more (misses-when test (not free && shows_ungranted s c.pass) BadToken bad_token)
       (more (misses-when test (not free && is_beyond s c c.pass) Forbidden forbidden)
       (more (misses-when test (is_write c.method && c.path.folder) FolderWrite folder_write)
-      (more (misses-cond test (is_put c.method) (option_map (λ count. Clash (clash_at c.path count)) (clash_in s.contents.docs c.path))
+      (more (misses-cond test (is_put c.method) (clash_reply c.path (clash_in s.contents.docs c.path))
       (misses-map test (λ count. Clash (clash_at c.path count)) (clash_in s.contents.docs c.path) (λ count. clash (clash_at c.path count))))
       (more (misses-when test (not (is_put c.method) && not there) Absent absent)
       (more (misses-when test (not (meets c.if_match there version)) Unmet unmet)
-      (more (misses-when test (is_write c.method && is_named c.if_none there version) Unmet unmet)
-      (more (misses-when test (is_reading c.method && is_named c.if_none there version) (Same version) (same version)) end))))))))
+      (more (misses-when test (is_write c.method && excludes c.if_none there version) Unmet unmet)
+      (more (misses-when test (is_reading c.method && excludes c.if_none there version) (Same version) (same version)) end))))))))
 
   limit_misses : (s : Snapshot) (quota : ℕ) (c : Call) → MissAll test (limit_steps s quota c)
   limit_misses s quota c =
       more (misses-when test (is_write c.method && nat_le max_len s.len) RecordsFull records_full)
       (more (misses-when test (is_put c.method && nat_lt quota (live_after s c)) (OverQuota (live_in s.contents.docs)) (over_quota (live_in s.contents.docs)))
-      (more (misses-cond test (is_put c.method) (option_map (λ count. FolderFull (folder_at (take count c.path.names))) (full_in s.contents.docs c.path))
+      (more (misses-cond test (is_put c.method) (full_reply c.path (full_in s.contents.docs c.path))
       (misses-map test (λ count. FolderFull (folder_at (take count c.path.names))) (full_in s.contents.docs c.path) (λ count. folder_full (folder_at (take count c.path.names))))) end))
 
 -- ---- a step that doesn't apply
@@ -207,6 +207,7 @@ no_record s c what there = true≢false (sym (record_adds c (shown s c.path) wha
 record Outcome (s : Snapshot) (r : Request) (what : Record) : Type 0 where
   fits : Fits s r what
   reached : Reached s what
+  only : brought r ≡ Some what
 
 put_outcome : (s : Snapshot) (quota : ℕ) (c : Call) (what : Record)
     → record_of_call (with_method Put c) (answer_call_in s quota (with_method Put c)) ≡ Some what → Outcome s (Store (with_method Put c)) what
@@ -234,6 +235,7 @@ put_outcome s quota c what there =
         room = roomy s.len (when_none _ _ l1.0);
       };
       reached = writes;
+      only = refl;
     })
 
 delete_outcome : (s : Snapshot) (quota : ℕ) (c : Call) (what : Record)
@@ -260,6 +262,7 @@ delete_outcome s quota c what there =
         room = roomy s.len (when_none _ _ l1.0);
       };
       reached = writes;
+      only = refl;
     })
 
 call_outcome : (s : Snapshot) (quota : ℕ) (c : Call) (m : Method) (what : Record)
@@ -277,7 +280,7 @@ grant_by s t x what true granted full taken there = absurd (cc)
 grant_by s t x what false true full taken there = absurd (cc)
 grant_by s t x what false false full taken there =
     subst (λ r. Outcome s (Grant t x) r) (some_same (GrantRecord t x) what there)
-    (record { fits = record { may = λ short. ap not taken; room = roomy s.len full }; reached = tt })
+    (record { fits = record { may = λ short. ap not taken; room = roomy s.len full }; reached = tt; only = refl })
 
 revoke_by : (s : Snapshot) (t : List ℕ) (what : Record) (free long : Bool) → is_none (s.scopes t) ≡ free → nat_le max_len s.len ≡ long
     → record_of_revoke t (if free then NotGranted else (if long then RecordsFull else Revoked)) ≡ Some what → Outcome s (Revoke t) what
@@ -285,7 +288,7 @@ revoke_by s t what true long granted full there = absurd (cc)
 revoke_by s t what false true granted full there = absurd (cc)
 revoke_by s t what false false granted full there =
     subst (λ r. Outcome s (Revoke t) r) (some_same (RevokeRecord t) what there)
-    (record { fits = record { may = λ short. not_false (is_some (s.scopes t)) granted; room = roomy s.len full }; reached = tt })
+    (record { fits = record { may = λ short. not_false (is_some (s.scopes t)) granted; room = roomy s.len full }; reached = tt; only = refl })
 
 -- ---- every request
 
@@ -306,6 +309,10 @@ pub taken-lawful : (h : History) (quota who : ℕ) (r : Request) (what : Record)
     → IsLawful (with_entry h (record { who = who; what = what }))
 taken-lawful h quota who r what law short there =
     lawful-with_entry h (record { who = who; what = what }) law (taken-may_follow h quota r what short there) (taken-room h quota r what there)
+
+-- what is taken is the record that the request brings
+pub taken-brought : (h : History) (quota : ℕ) (r : Request) (what : Record) → taken h quota r ≡ Some what → brought r ≡ Some what
+taken-brought h quota r what there = (outcome (snapshot h) quota r what there).only
 
 -- the writer of a record that a request adds is granted, with scopes that reach
 pub reach_put : (h : History) (quota : ℕ) (r : Request) (p : Path) (k b : List ℕ) (w : Option (List ℕ)) → taken h quota r ≡ Some (PutRecord p k b w)

@@ -3,8 +3,9 @@ use Rattle.std.proofs.Common.{◌≡◌, ◌≢◌, ℕ, ◌+◌, Bool, true, fa
 use Rattle.std.proofs.lemmas.Bool.{cases_Bool, cond-true, cond-false, and_parts}
 use Rattle.rs_path.specs.Paths.{Path}
 use Rattle.rs_path.specs.Below.{is_below, is_inside}
+use Rattle.rs_path.specs.declared.log_entry.LogEntry.{LogEntry}
 use Rattle.rs_record.specs.declared.records.Record.TheVariants.{Put, Remove}
-use Rattle.rs_rules.specs.declared.log_entry.LogEntry.{LogEntry}
+use Rattle.rs_record.specs.declared.records.Record.{Record}
 use Rattle.rs_rules.specs.Histories.{History, len, with_entry}
 use Rattle.rs_rules.specs.Documents.{docs, docs_after, doc_in}
 use Rattle.rs_rules.specs.Versions.{writes_below, is_there, folder_version, doc_version, ver}
@@ -13,7 +14,7 @@ use Rattle.rs_rules.proofs.DocLemmas.{doc_in-put, doc_in-put_other, doc_in-other
 use Rattle.rs_rules.proofs.StepLaws.{docs-with_entry, ver-with_entry}
 
 -- a write of the document at p, by what it does to the documents
-module _ (h : History) (e : LogEntry) (p : Path) (put : Bool)
+module _ (h : History) (e : LogEntry Record) (p : Path) (put : Bool)
     (writes : (q : Path) → writes_below q e.what ≡ is_below q p)
     (here : doc_version (doc_in p (docs_after (len h + 1) e.what (docs h))) ≡ cond put (len h + 1) 0)
     (elsewhere : (q : Path) → q ≢ p → doc_in q (docs_after (len h + 1) e.what (docs h)) ≡ doc_in q (docs h)) where

@@ -14,13 +14,13 @@ first_front test done [] = None
 first_front test done (n ∷ ns) = if test done then Some (length done) else first_front test (done ++ n ∷ []) ns
 
 -- a document stands at these names
-abbrev pub is_document : List Placed → List (List ℕ) → Bool
-is_document docs names = is_some (doc_in (document_at names) docs)
+abbrev pub has_document : List Placed → List (List ℕ) → Bool
+has_document docs names = is_some (doc_in (document_at names) docs)
 
 -- the number of names of the first document that the path would be below
 abbrev pub first_document : List Placed → List (List ℕ) → Option ℕ
 first_document docs [] = None
-first_document docs (n ∷ ns) = first_front (is_document docs) (n ∷ []) ns
+first_document docs (n ∷ ns) = first_front (has_document docs) (n ∷ []) ns
 
 -- the number of names of what a document at the path clashes with: of a document that it would be below, or its own
 -- where they are those of a folder that isn't empty

@@ -52,17 +52,17 @@ abbrev pub entity_tag : List ℕ → Option EntityTag
 entity_tag item = option_map (λ text. record { weak = is_marked item; tag = text }) (quoted_text (unmarked item))
 
 -- what an item is from its first byte that is no blank on: a tag, or none, at that place
-abbrev pub tag_at : ℕ → Option EntityTag → Result (Option EntityTag) ℕ
-tag_at start None = Err start
-tag_at start (Some tag) = Ok (Some tag)
+abbrev pub tag_or_place : ℕ → Option EntityTag → Result (Option EntityTag) ℕ
+tag_or_place start None = Err start
+tag_or_place start (Some tag) = Ok (Some tag)
 
 abbrev pub item_from : Option ℕ → List ℕ → Result (Option EntityTag) ℕ
 item_from None item = Ok None
-item_from (Some start) item = tag_at start (entity_tag (drop start item))
+item_from (Some start) item = tag_or_place start (entity_tag (drop start item))
 
 -- an item of a list: nothing, a tag, or the place in it from which on it is no tag
-abbrev pub item_reading : List ℕ → Result (Option EntityTag) ℕ
-item_reading item = item_from (position (λ byte. not (is_blank byte)) item) item
+abbrev pub cond_item_reading : List ℕ → Result (Option EntityTag) ℕ
+cond_item_reading item = item_from (position (λ byte. not (is_blank byte)) item) item
 
 -- the tags and one more item; a text in quotes that is no `Tag` is left out
 abbrev pub with_item : List EntityTag → Option EntityTag → List EntityTag
@@ -80,7 +80,7 @@ after_item (Err start) place some tags reading = Err (place + start)
 abbrev pub list_reading : ℕ → Bool → List EntityTag → List (List ℕ) → Result (List EntityTag) ℕ
 list_reading place some tags [] = if some then Ok tags else Err 0
 list_reading place some tags (item ∷ items) =
-    after_item (item_reading item) place some tags (λ now listed. list_reading (place + length item + 1) now listed items)
+    after_item (cond_item_reading item) place some tags (λ now listed. list_reading (place + length item + 1) now listed items)
 
 -- the tags of a text, or the place of the first item that is no tag
 abbrev pub tags_reading : List ℕ → Result (List EntityTag) ℕ
@@ -95,10 +95,10 @@ abbrev pub cond_reading : List ℕ → Result Cond ℕ
 cond_reading text = if bytes_eq text (42 ∷ []) then Ok Any else listed (tags_reading text)
 
 -- the call read this, or memory ran out
-abbrev pub Reads : Result Cond CondFault → Result Cond ℕ → Type 0
-Reads (Ok cond) wanted = wanted ≡ Ok cond
-Reads (Err (Bad place)) wanted = wanted ≡ Err place
-Reads (Err NoMemory) wanted = Unit {0}
+abbrev pub ReadsAsCond : Result Cond CondFault → Result Cond ℕ → Type 0
+ReadsAsCond (Ok cond) wanted = wanted ≡ Ok cond
+ReadsAsCond (Err (Bad place)) wanted = wanted ≡ Err place
+ReadsAsCond (Err NoMemory) wanted = Unit {0}
 
 -- the call has added what it read in an item that begins at the place
 abbrev pub AddsItem : Result Bool CondFault → List EntityTag → List EntityTag → ℕ → Result (Option EntityTag) ℕ → Type 0

@@ -20,8 +20,8 @@ meets Missing there version = true
 meets Any there version = there
 meets (Tags tags) there version = there && lists_strong tags version
 
--- If-None-Match names what is there and has the version
-abbrev pub is_named : Cond → Bool → ℕ → Bool
-is_named Missing there version = false
-is_named Any there version = there
-is_named (Tags tags) there version = there && lists_weak tags version
+-- If-None-Match excludes what is there and has the version: it names it
+abbrev pub excludes : Cond → Bool → ℕ → Bool
+excludes Missing there version = false
+excludes Any there version = there
+excludes (Tags tags) there version = there && lists_weak tags version

@@ -14,13 +14,13 @@ abbrev pub others : Path → List Placed → List Placed
 others path docs = filter (λ (d : Placed). not (same_path path d.path)) docs
 
 -- a document at its path
-abbrev pub placed : ℕ → Path → List ℕ → List ℕ → Placed
-placed n path kind body = record { path = path; doc = record { version = n; kind = kind; body = body } }
+abbrev pub placed_document : ℕ → Path → List ℕ → List ℕ → Placed
+placed_document n path kind body = record { path = path; doc = record { version = n; kind = kind; body = body } }
 
 -- the documents after record n: a Put replaces what stood at its path, a Remove takes it away
 -- (draft-dejong-remotestorage, section 6)
 abbrev pub docs_after : ℕ → Record → List Placed → List Placed
-docs_after n (Put path kind body writer) docs = others path docs ++ placed n path kind body ∷ []
+docs_after n (Put path kind body writer) docs = others path docs ++ placed_document n path kind body ∷ []
 docs_after n (Remove path writer) docs = others path docs
 docs_after n (Grant token scopes) docs = docs
 docs_after n (Revoke token) docs = docs

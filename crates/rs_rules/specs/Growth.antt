@@ -1,6 +1,7 @@
 -- One history of all callers: how it grows over a turn of a desk (own).
-use Rattle.std.specs.Prelude.{◌≡◌, ℕ, ◌+◌, ◌-◌, ◌^◌, ◌≤◌, min, Bool, true, false, ◌==◌, List, ◌++◌, filter, Result, Ok, Err}
-use Rattle.rs_rules.specs.declared.log_entry.LogEntry.{LogEntry}
+use Rattle.std.specs.Prelude.{◌≡◌, ℕ, Bool, true, false, ◌++◌, Result, Ok, Err}
+use Rattle.rs_path.specs.Logs.{own}
+use Rattle.rs_face.specs.Causes.{Rose}
 use Rattle.rs_rules.specs.declared.request.Request.{Request}
 use Rattle.rs_rules.specs.declared.reply.Reply.{Reply}
 use Rattle.rs_rules.specs.declared.reply.Reply.TheVariants.{StoreFailed}
@@ -9,10 +10,6 @@ use Rattle.rs_rules.specs.declared.desk.DeskFault.{DeskFault}
 use Rattle.rs_rules.specs.declared.desk.DeskFault.TheVariants.{NoMemory}
 use Rattle.rs_rules.specs.Histories.{History, len, with_entries, up_to, IsPoint, IsFront}
 use Rattle.rs_rules.specs.Answers.{answer, taken, entry_of}
-
--- the entries that this desk made
-abbrev pub own : ℕ → List LogEntry → List LogEntry
-own me entries = filter (λ (e : LogEntry). e.who == me) entries
 
 -- the history goes on to `front` by others' entries, gives the reply there, and then has the record that the request
 -- adds, as this desk's
@@ -28,23 +25,19 @@ pub record GrowsByOthers (old new : History) (me : ℕ) : Type 0 where
   pub before : IsFront old new
   pub mine : own me new.entries ≡ own me old.entries
 
--- a count of faults rose, or had been at its greatest value before
-abbrev pub Rose : ℕ → ℕ → Type 0
-Rose before now = min (before + 1) (2 ^ 64 - 1) ≤ now
-
 -- the reply says that the record could not be kept
 abbrev pub is_store_failed : Reply → Bool
 is_store_failed StoreFailed = true
 is_store_failed reply = false
 
 -- nothing was added where the record could not be kept or memory ran out; nothing at all where the desk is alone
-pub record Failed (old new : History) (me : ℕ) (alone : Bool) : Type 0 where
+pub record AddsNothing (old new : History) (me : ℕ) (alone : Bool) : Type 0 where
   pub others : GrowsByOthers old new me
   pub still : alone ≡ true → new ≡ old
 
 -- the record could not be kept, and the count of faults rose
 pub record NotKept (old new : History) (me : ℕ) (alone : Bool) (before now : ℕ) : Type 0 where
-  pub nothing : Failed old new me alone
+  pub nothing : AddsNothing old new me alone
   pub rose : Rose before now
 
 -- the request was decided; a desk that is alone decides on the history as it was before the turn
@@ -59,6 +52,6 @@ TurnedBy false old new quota me alone r turn before now = Decided old new quota 
 
 -- what a turn has done to its user's history, and to the count of faults
 abbrev pub Turned : History → History → ℕ → ℕ → Bool → Request → Result Turn DeskFault → ℕ → ℕ → Type 0
-Turned old new quota me alone r (Err NoMemory) before now = Failed old new me alone
+Turned old new quota me alone r (Err NoMemory) before now = AddsNothing old new me alone
 Turned old new quota me alone r (Ok turn) before now =
     TurnedBy (is_store_failed turn.reply) old new quota me alone r turn before now

@@ -1,10 +1,11 @@
 -- Histories: a base, and the records accepted since (own).
 use Rattle.std.specs.Prelude.{◌≡◌, ℕ, ◌+◌, ◌-◌, ◌≤◌, List, [], ◌∷◌, ◌++◌, length, take, Option, None}
+use Rattle.rs_path.specs.Logs.{StartsWith}
 use Rattle.rs_path.specs.Paths.{Path}
+use Rattle.rs_path.specs.declared.log_entry.LogEntry.{LogEntry}
 use Rattle.rs_scope.specs.declared.scope.Scope.{Scope}
 use Rattle.rs_record.specs.declared.records.Record.{Record}
 use Rattle.rs_rules.specs.declared.placed.Placed.{Placed}
-use Rattle.rs_rules.specs.declared.log_entry.LogEntry.{LogEntry}
 
 -- what the entries that were given up have left: their number, the documents in the order of their numbers, the versions
 -- of folders, and the scopes of tokens
@@ -21,7 +22,7 @@ empty_base = record { cut = 0; docs = []; versions = λ folder. 0; tokens = λ t
 -- a base, and the entries after it, which are numbered from its cut plus 1
 pub record History : Type 0 where
   pub base : Base
-  pub entries : List LogEntry
+  pub entries : List (LogEntry Record)
 
 -- the history without entries
 abbrev pub start : Base → History
@@ -32,11 +33,11 @@ abbrev pub len : History → ℕ
 len h = h.base.cut + length h.entries
 
 -- the history and one more entry
-abbrev pub with_entry : History → LogEntry → History
+abbrev pub with_entry : History → LogEntry Record → History
 with_entry h e = record { base = h.base; entries = h.entries ++ e ∷ [] }
 
 -- the history and more entries
-abbrev pub with_entries : History → List LogEntry → History
+abbrev pub with_entries : History → List (LogEntry Record) → History
 with_entries h es = record { base = h.base; entries = h.entries ++ es }
 
 -- the history as it was at length n
@@ -51,10 +52,9 @@ pub record IsPoint (n : ℕ) (h : History) : Type 0 where
 -- the first history is a prefix of the second: the same base, and its entries come first
 pub record IsFront (old new : History) : Type 0 where
   pub same : new.base ≡ old.base
-  pub rest : List LogEntry
-  pub goes_on : new.entries ≡ old.entries ++ rest
+  pub entries : StartsWith new.entries old.entries
 
 -- a value from the base on, one step for each entry, with its number
-abbrev pub replay : {S : Type 0} → (ℕ → Record → S → S) → ℕ → S → List LogEntry → S
+abbrev pub replay : {S : Type 0} → (ℕ → Record → S → S) → ℕ → S → List (LogEntry Record) → S
 replay step n s [] = s
 replay step n s (e ∷ es) = replay step (n + 1) (step (n + 1) e.what s) es

@@ -2,13 +2,13 @@
 -- without a writer are set aside (own).
 use Rattle.std.specs.Prelude.{◌≡◌, ℕ, ◌≤◌, Bool, true, false, not, ◌&&◌, nat_le, List, [], ◌∷◌, length, Option, Some, None, is_some, is_none, IsTrue}
 use Rattle.rs_path.specs.Paths.{Path}
+use Rattle.rs_path.specs.declared.log_entry.LogEntry.{LogEntry}
 use Rattle.rs_scope.specs.declared.method.Method.{Method}
 use Rattle.rs_scope.specs.declared.method.Method.TheVariants.{Put as PutMethod, Delete}
 use Rattle.rs_scope.specs.declared.scope.Scope.{Scope}
 use Rattle.rs_scope.specs.Reach.{reach_of}
 use Rattle.rs_record.specs.declared.records.Record.{Record}
 use Rattle.rs_record.specs.declared.records.Record.TheVariants.{Put, Remove, Grant, Revoke}
-use Rattle.rs_rules.specs.declared.log_entry.LogEntry.{LogEntry}
 use Rattle.rs_record.specs.Records.{body_limit}
 use Rattle.rs_rules.specs.Limits.{max_len}
 use Rattle.rs_rules.specs.Histories.{Base, empty_base, History, start, len, with_entry}
@@ -38,7 +38,7 @@ may_follow s (Grant token scopes) = is_none (s.scopes token)
 may_follow s (Revoke token) = is_some (s.scopes token)
 
 -- each entry stands rightly after the history and the entries before it
-abbrev pub AllFollow : History → List LogEntry → Type 0
+abbrev pub AllFollow : History → List (LogEntry Record) → Type 0
 AllFollow h [] = Unit {0}
 AllFollow h (e ∷ es) = IsTrue (may_follow (snapshot h) e.what) × AllFollow (with_entry h e) es
 

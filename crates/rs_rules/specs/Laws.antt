@@ -6,8 +6,9 @@ use Rattle.rs_path.specs.declared.child.Child.{Child}
 use Rattle.rs_path.specs.Paths.{Path}
 use Rattle.rs_path.specs.Below.{is_below}
 use Rattle.rs_path.specs.Children.{child_cmp, same_child}
+use Rattle.rs_path.specs.declared.log_entry.LogEntry.{LogEntry}
 use Rattle.rs_scope.specs.declared.method.Method.{Method}
-use Rattle.rs_rules.specs.declared.log_entry.LogEntry.{LogEntry}
+use Rattle.rs_record.specs.declared.records.Record.{Record}
 use Rattle.rs_rules.specs.Histories.{History}
 use Rattle.rs_rules.specs.Documents.{docs, doc_at}
 use Rattle.rs_rules.specs.Versions.{writes_below, is_there, ver}
@@ -28,7 +29,7 @@ pub record SameBelow (folder : Path) (h now : History) : Type 0 where
   pub versions : (q : Path) → is_below folder q ≡ true → ver now q ≡ ver h q
 
 -- the numbers of the entries that write below the folder, from n + 1 on
-abbrev pub numbers_below : Path → ℕ → List LogEntry → List ℕ
+abbrev pub numbers_below : Path → ℕ → List (LogEntry Record) → List ℕ
 numbers_below folder n [] = []
 numbers_below folder n (e ∷ es) =
     if writes_below folder e.what then (n + 1) ∷ numbers_below folder (n + 1) es else numbers_below folder (n + 1) es

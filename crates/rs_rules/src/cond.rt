@@ -1,7 +1,7 @@
 //! Conditions of requests.
 
 ghost use Rattle.std.specs.Prelude.{◌<◌, ◌^◌, length};
-ghost use Rattle.rs_rules.specs.CondReadings.{cond_reading, Reads};
+ghost use Rattle.rs_rules.specs.CondReadings.{cond_reading, ReadsAsCond};
 
 use crate::cond_fault::CondFault;
 use crate::reading::read_tags;
@@ -27,7 +27,7 @@ impl Cond {
     /// a list without a tag is refused at 0.
     pub fn read(alloc: Global, text: &[u8]) -> Result<Cond, CondFault>
         requires short { length text.now < 2 ^ 32 }
-        ensures read { Reads result (cond_reading text.now) }
+        ensures read { ReadsAsCond result (cond_reading text.now) }
     {
         match text {
             b"*" => Ok(Cond::Any),

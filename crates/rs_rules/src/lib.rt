@@ -8,22 +8,14 @@ mod desk;
 mod doc;
 mod entity_tag;
 mod laws;
-mod log_entry;
+mod limits;
 mod open_fault;
 mod pass;
 mod placed;
-#[cfg(test)]
-mod plain_answer;
 mod reading;
 mod reply;
 mod request;
-#[cfg(test)]
-mod step_cases;
-#[cfg(test)]
-mod step_tests;
 mod tag_list;
-#[cfg(test)]
-mod tests;
 mod tree;
 mod turn;
 
@@ -37,7 +29,7 @@ pub use laws::{
     answer_laws, growth_laws, lawful_laws, listing_laws, live_laws, never_returns_law,
     same_version_law, settle_law, step_laws, taken_laws, version_bounds, version_law,
 };
-pub use log_entry::LogEntry;
+pub use limits::{MAX_ITEMS, MAX_LEN, limit_laws};
 pub use open_fault::OpenFault;
 pub use pass::Pass;
 pub use placed::Placed;

@@ -2,7 +2,7 @@
 
 ghost use Rattle.std.specs.Prelude.{◌≡◌, ◌+◌, ◌<◌, ◌≤◌, ◌^◌, ◌∷◌, [], false, not, length, take, drop, Some, None, Ok, Err, IfSome, position, option_copied, if◌then◌else◌};
 ghost use Rattle.std.specs.List.{list_all};
-ghost use Rattle.rs_rules.specs.CondReadings.{is_blank, is_quote, is_tag_byte, cut_items, item_len, rest_items, closed_at, quoted_text, is_marked, unmarked, item_reading, tags_reading, listed, Reads, AddsItem};
+ghost use Rattle.rs_rules.specs.CondReadings.{is_blank, is_quote, is_tag_byte, cut_items, item_len, rest_items, closed_at, quoted_text, is_marked, unmarked, cond_item_reading, tags_reading, listed, ReadsAsCond, AddsItem};
 
 use crate::cond::Cond;
 use crate::cond_fault::CondFault;
@@ -14,7 +14,7 @@ use std::alloc::Global;
 /// The entity tags of a text.
 pub(crate) fn read_tags(alloc: Global, text: &[u8]) -> Result<Cond, CondFault>
     requires short { length text.now < 2 ^ 32 }
-    ensures read { Reads result (listed (tags_reading text.now)) }
+    ensures read { ReadsAsCond result (listed (tags_reading text.now)) }
 {
     let mut tags = TagList::new(alloc);
     let mut some = false;
@@ -34,7 +34,7 @@ pub(crate) fn read_tags(alloc: Global, text: &[u8]) -> Result<Cond, CondFault>
 
 // The condition of the tags; whether there was an item at all is the flag.
 fn finished(some: bool, tags: TagList) -> Result<Cond, CondFault>
-    ensures read { Reads result (listed (if some then Ok tags else Err 0)) }
+    ensures read { ReadsAsCond result (listed (if some then Ok tags else Err 0)) }
 {
     if some {
         Ok(Cond::Tags(tags))
@@ -73,7 +73,7 @@ fn item_len(text: &[u8]) -> usize
 // Adds the tag of an item that begins at the place; whether there is one.
 fn add_item(alloc: Global, tags: &mut TagList, item: &[u8], place: u32) -> Result<bool, CondFault>
     requires short { place + length item.now < 2 ^ 32 }
-    ensures adds { AddsItem result tags.old tags.new place (item_reading item.now) }
+    ensures adds { AddsItem result tags.old tags.new place (cond_item_reading item.now) }
 {
     let Some(start) = first_word(item) else {
         return Ok(false);
