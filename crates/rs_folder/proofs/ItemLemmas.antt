@@ -6,7 +6,7 @@ use Rattle.rs_path.specs.declared.entry.Entry.{Entry}
 use Rattle.rs_path.specs.Names.{is_name}
 use Rattle.rs_path.specs.Keys.{key_text}
 use Rattle.rs_path.specs.Items.{entry_key, is_item}
-use Rattle.rs_folder.specs.FolderReadings.{is_folder_key, key_name, tag_at, item_with, item_reading}
+use Rattle.rs_folder.specs.FolderReadings.{is_folder_key, key_name, item_tag, item_with, entry_reading}
 
 -- the name and the slash give the key back
 key_again : (key : List ℕ) (folder : Bool) → is_folder_key key ≡ folder → key_text (cond folder (take (length key - 1) key) key) folder ≡ key
@@ -24,12 +24,12 @@ item_by true (Some t) name folder value item is = (t, cc)
 item_by true None name folder value item is = absurd cc
 item_by false tag name folder value item is = absurd cc
 
-item_made : (key : List ℕ) (value : Data) (item : Entry) → item_reading key value ≡ Some item
+item_made : (key : List ℕ) (value : Data) (item : Entry) → entry_reading key value ≡ Some item
     → (t : List ℕ) × (item_with (key_name key) (is_folder_key key) t value ≡ item)
-item_made key value item is = item_by (is_name (key_name key)) (tag_at value) (key_name key) (is_folder_key key) value item is
+item_made key value item is = item_by (is_name (key_name key)) (item_tag value) (key_name key) (is_folder_key key) value item is
 
 -- an item that was read has the key that it stood at
-pub entry_key-reading : (key : List ℕ) (value : Data) (item : Entry) → item_reading key value ≡ Some item → entry_key item ≡ key
+pub entry_key-reading : (key : List ℕ) (value : Data) (item : Entry) → entry_reading key value ≡ Some item → entry_key item ≡ key
 entry_key-reading key value item is = let made = item_made key value item is in ap entry_key (sym made.1) ∙ key_parts key
 
 plain_with : (name : List ℕ) (folder : Bool) (t : List ℕ) (value : Data) → is_item (item_with name folder t value) ≡ true
@@ -37,7 +37,7 @@ plain_with name true t value = refl
 plain_with name false t value = refl
 
 -- and is one
-pub is_item-reading : (key : List ℕ) (value : Data) (item : Entry) → item_reading key value ≡ Some item → is_item item ≡ true
+pub is_item-reading : (key : List ℕ) (value : Data) (item : Entry) → entry_reading key value ≡ Some item → is_item item ≡ true
 is_item-reading key value item is =
     let made = item_made key value item is in
     ap is_item (sym made.1) ∙ plain_with (key_name key) (is_folder_key key) made.0 value

@@ -1,10 +1,10 @@
-pub mod DataLemmas
-pub mod TextLemmas
-pub mod PartLemmas
-pub mod Utf8Lemmas
-pub mod ValueLemmas
-pub mod ItemLemmas
-pub mod ReadingLemmas
-pub mod RoundTrips
-pub mod OrderLemmas
-pub mod WrongKeyLemmas
+mod DataLemmas
+mod TextLemmas
+mod PartLemmas
+mod Utf8Lemmas
+mod ValueLemmas
+mod ItemLemmas
+mod ReadingLemmas
+mod RoundTrips
+mod OrderLemmas
+mod WrongKeyLemmas

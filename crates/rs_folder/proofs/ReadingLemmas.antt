@@ -15,7 +15,7 @@ use Rattle.serde_json.specs.declared.value.Value.{Value}
 use Rattle.rs_path.specs.declared.entry.Entry.{Entry}
 use Rattle.rs_path.specs.Items.{entry_key, comes_before}
 use Rattle.rs_folder.specs.declared.folder_fault.FolderFault.TheVariants.{NotJson}
-use Rattle.rs_folder.specs.FolderReadings.{item_reading, items_from, value_reading, folder_reading}
+use Rattle.rs_folder.specs.FolderReadings.{entry_reading, items_from, value_reading, folder_reading}
 
 abbrev pub Member : Type 0
 Member = String Global × Value
@@ -52,7 +52,7 @@ Ascend-next items m rest item ascend same =
     }
 
 -- the item of the first member comes next
-pub items_from-next : (items : List Entry) (m : Member) (rest : List Member) (item : Entry) → item_reading (string_bytes m.0) (view m.1) ≡ Some item
+pub items_from-next : (items : List Entry) (m : Member) (rest : List Member) (item : Entry) → entry_reading (string_bytes m.0) (view m.1) ≡ Some item
     → items_from items (members_view (m ∷ rest)) ≡ items_from (items ++ item ∷ []) (members_view rest)
 items_from-next items m rest item is = rw is refl
 

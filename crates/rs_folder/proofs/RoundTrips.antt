@@ -17,7 +17,7 @@ use Rattle.rs_path.specs.Readings.{is_slash}
 use Rattle.rs_path.proofs.Cited.{name_without_slash}
 use Rattle.rs_folder.specs.Descriptions.{holds_of, is_entry, folder_text}
 use Rattle.rs_folder.specs.FolderData.{tag_data, kind_data, length_data, entry_data, items_data}
-use Rattle.rs_folder.specs.FolderReadings.{is_folder_key, key_name, tag_at, kind_at, length_at, item_with, item_reading, items_from, folder_reading}
+use Rattle.rs_folder.specs.FolderReadings.{is_folder_key, key_name, item_tag, item_kind, item_length, item_with, entry_reading, items_from, folder_reading}
 use Rattle.rs_folder.proofs.PartLemmas.{HasParts-from}
 use Rattle.rs_folder.proofs.Utf8Lemmas.{folder_utf8}
 use Rattle.rs_folder.proofs.ValueLemmas.{read-folder_text}
@@ -56,19 +56,19 @@ key_name-key name false named = rw (document_key name named) refl
 
 -- ---- the value
 
-tag_found : (length : Option ℕ) (kind : Option (List ℕ)) (tag : List ℕ) → is_tag tag ≡ true → tag_at (object (length_data length (kind_data kind (tag_data tag)))) ≡ Some tag
+tag_found : (length : Option ℕ) (kind : Option (List ℕ)) (tag : List ℕ) → is_tag tag ≡ true → item_tag (object (length_data length (kind_data kind (tag_data tag)))) ≡ Some tag
 tag_found None None tag is = rw is refl
 tag_found None (Some kind) tag is = rw is refl
 tag_found (Some n) None tag is = rw is refl
 tag_found (Some n) (Some kind) tag is = rw is refl
 
-kind_found : (length : Option ℕ) (kind : Option (List ℕ)) (tag : List ℕ) → holds_of is_kind kind ≡ true → kind_at (object (length_data length (kind_data kind (tag_data tag)))) ≡ kind
+kind_found : (length : Option ℕ) (kind : Option (List ℕ)) (tag : List ℕ) → holds_of is_kind kind ≡ true → item_kind (object (length_data length (kind_data kind (tag_data tag)))) ≡ kind
 kind_found None None tag is = refl
 kind_found None (Some kind) tag is = rw is refl
 kind_found (Some n) None tag is = refl
 kind_found (Some n) (Some kind) tag is = rw is refl
 
-length_found : (length : Option ℕ) (kind : Option (List ℕ)) (tag : List ℕ) → length_at (object (length_data length (kind_data kind (tag_data tag)))) ≡ length
+length_found : (length : Option ℕ) (kind : Option (List ℕ)) (tag : List ℕ) → item_length (object (length_data length (kind_data kind (tag_data tag)))) ≡ length
 length_found None None tag = refl
 length_found None (Some kind) tag = refl
 length_found (Some n) None tag = refl
@@ -88,11 +88,11 @@ plain_parts name false tag kind length plain = refl
 item_again : (e : Entry) → is_entry e ≡ true → is_item e ≡ true → item_with e.name e.folder e.tag (entry_data e) ≡ e
 item_again e is plain =
     let parts = HasParts-from e is in
-    ap (λ kind. Made e.name e.folder e.tag (cond e.folder None kind) (cond e.folder None (length_at (entry_data e)))) (kind_found e.length e.kind e.tag parts.kind)
+    ap (λ kind. Made e.name e.folder e.tag (cond e.folder None kind) (cond e.folder None (item_length (entry_data e)))) (kind_found e.length e.kind e.tag parts.kind)
     ∙ ap (λ length. Made e.name e.folder e.tag (cond e.folder None e.kind) (cond e.folder None length)) (length_found e.length e.kind e.tag)
     ∙ plain_parts e.name e.folder e.tag e.kind e.length plain
 
-item_back : (e : Entry) → is_entry e ≡ true → is_item e ≡ true → item_reading (entry_key e) (entry_data e) ≡ Some e
+item_back : (e : Entry) → is_entry e ≡ true → is_item e ≡ true → entry_reading (entry_key e) (entry_data e) ≡ Some e
 item_back e is plain =
     let parts = HasParts-from e is in
     rw (key_name-key e.name e.folder parts.name, is_folder_key-key e.name e.folder parts.name, parts.name, tag_found e.length e.kind e.tag parts.tag)

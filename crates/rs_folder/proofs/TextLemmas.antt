@@ -6,7 +6,7 @@ use Rattle.serde_json.specs.Data.{string, object, Members, no_members, member}
 use Rattle.serde_json.specs.Written.{has_float, members_have_float, compact_text, members_text}
 use Rattle.rs_path.specs.declared.entry.Entry.{Entry}
 use Rattle.rs_path.specs.Items.{entry_key}
-use Rattle.rs_folder.specs.Descriptions.{member_text, joined, braced, length_members, kind_members, tag_members, entry_text, context, folder_text}
+use Rattle.rs_folder.specs.Descriptions.{member_text, with_commas, braced, length_members, kind_members, tag_members, entry_text, context, folder_text}
 use Rattle.rs_folder.specs.FolderData.{tag_data, kind_data, length_data, entry_data, items_data, folder_data}
 
 -- each member's text
@@ -23,7 +23,7 @@ later_members (member k d ms) =
     ap (λ s. 44 ∷ (quoted k ++ 58 ∷ (compact_text d ++ s))) (later_members ms)
     ∙ ap (λ s. 44 ∷ s) (regroup (quoted k) (compact_text d) (flat_map (λ other. 44 ∷ other) (pieces ms)) (125 ∷ []))
 
-first_members : (ms : Members) → members_text false ms ≡ joined (pieces ms) ++ 125 ∷ []
+first_members : (ms : Members) → members_text false ms ≡ with_commas (pieces ms) ++ 125 ∷ []
 first_members no_members = refl
 first_members (member k d ms) =
     ap (λ s. quoted k ++ 58 ∷ (compact_text d ++ s)) (later_members ms)

@@ -13,7 +13,7 @@ use Rattle.rs_path.specs.Keys.{key_text}
 use Rattle.rs_path.specs.Items.{entry_key}
 use Rattle.rs_path.proofs.Cited.{name_text}
 use Rattle.rs_path.proofs.Cited.{kind_text, tag_text}
-use Rattle.rs_folder.specs.Descriptions.{holds_of, is_length, is_entry, member_text, joined, braced, length_members, kind_members, tag_members, entry_text, context, folder_text}
+use Rattle.rs_folder.specs.Descriptions.{holds_of, is_length, is_entry, member_text, with_commas, braced, length_members, kind_members, tag_members, entry_text, context, folder_text}
 use Rattle.rs_folder.proofs.PartLemmas.{HasParts-from}
 
 member_utf8 : (key value : List ℕ) → IsUtf8 key → IsUtf8 value → IsUtf8 (member_text key value)
@@ -32,14 +32,14 @@ others_utf8 [] h = IsUtf8-are_ascii [] refl
 others_utf8 (x ∷ xs) h =
     IsUtf8-append (44 ∷ x) (flat_map (λ other. 44 ∷ other) xs) (IsUtf8-append (44 ∷ []) x (IsUtf8-are_ascii (44 ∷ []) refl) h.0) (others_utf8 xs h.1)
 
-joined_utf8 : (xs : List (List ℕ)) → AreTexts xs → IsUtf8 (joined xs)
+joined_utf8 : (xs : List (List ℕ)) → AreTexts xs → IsUtf8 (with_commas xs)
 joined_utf8 [] h = IsUtf8-are_ascii [] refl
 joined_utf8 (x ∷ xs) h = IsUtf8-append x (flat_map (λ other. 44 ∷ other) xs) h.0 (others_utf8 xs h.1)
 
 braced_utf8 : (xs : List (List ℕ)) → AreTexts xs → IsUtf8 (braced xs)
 braced_utf8 xs h =
-    IsUtf8-append (123 ∷ []) (joined xs ++ 125 ∷ []) (IsUtf8-are_ascii (123 ∷ []) refl)
-    (IsUtf8-append (joined xs) (125 ∷ []) (joined_utf8 xs h) (IsUtf8-are_ascii (125 ∷ []) refl))
+    IsUtf8-append (123 ∷ []) (with_commas xs ++ 125 ∷ []) (IsUtf8-are_ascii (123 ∷ []) refl)
+    (IsUtf8-append (with_commas xs) (125 ∷ []) (joined_utf8 xs h) (IsUtf8-are_ascii (125 ∷ []) refl))
 
 key_utf8 : (name : List ℕ) (folder : Bool) → IsUtf8 name → IsUtf8 (key_text name folder)
 key_utf8 name true u = IsUtf8-append name (47 ∷ []) u (IsUtf8-are_ascii (47 ∷ []) refl)

@@ -26,12 +26,12 @@ abbrev pub member_text : List ℕ → List ℕ → List ℕ
 member_text key value = quoted key ++ 58 ∷ value
 
 -- the members between braces, parted by commas
-abbrev pub joined : List (List ℕ) → List ℕ
-joined [] = []
-joined (member ∷ members) = member ++ flat_map (λ other. 44 ∷ other) members
+abbrev pub with_commas : List (List ℕ) → List ℕ
+with_commas [] = []
+with_commas (member ∷ members) = member ++ flat_map (λ other. 44 ∷ other) members
 
 abbrev pub braced : List (List ℕ) → List ℕ
-braced members = 123 ∷ (joined members ++ 125 ∷ [])
+braced members = 123 ∷ (with_commas members ++ 125 ∷ [])
 
 -- `"Content-Length":N`, where the length is known
 abbrev pub length_members : Option ℕ → List (List ℕ)

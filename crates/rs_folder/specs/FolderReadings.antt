@@ -29,16 +29,16 @@ abbrev pub text_at : List ℕ → Data → Option (List ℕ)
 text_at key value = option_and_then as_str (get key value)
 
 -- a text `ETag` that is a tag
-abbrev pub tag_at : Data → Option (List ℕ)
-tag_at value = passing is_tag (text_at (codes "ETag") value)
+abbrev pub item_tag : Data → Option (List ℕ)
+item_tag value = passing is_tag (text_at (codes "ETag") value)
 
 -- a text `Content-Type` that is a content type
-abbrev pub kind_at : Data → Option (List ℕ)
-kind_at value = passing is_kind (text_at (codes "Content-Type") value)
+abbrev pub item_kind : Data → Option (List ℕ)
+item_kind value = passing is_kind (text_at (codes "Content-Type") value)
 
 -- a number `Content-Length` below 2 ^ 64, without point and exponent
-abbrev pub length_at : Data → Option ℕ
-length_at value = option_and_then as_u64 (option_and_then as_number (get (codes "Content-Length") value))
+abbrev pub item_length : Data → Option ℕ
+item_length value = option_and_then as_u64 (option_and_then as_number (get (codes "Content-Length") value))
 
 -- an item with this tag; a folder has neither content type nor length
 abbrev pub item_with : List ℕ → Bool → List ℕ → Data → Entry
@@ -46,25 +46,25 @@ item_with name folder tag value = record {
   name = name;
   folder = folder;
   tag = tag;
-  kind = if folder then None else kind_at value;
-  length = if folder then None else length_at value;
+  kind = if folder then None else item_kind value;
+  length = if folder then None else item_length value;
 }
 
 -- the item at a key, where its name is one and its value an object with a tag
-abbrev pub item_reading : List ℕ → Data → Option Entry
-item_reading key value = if is_name (key_name key)
-    then option_map (λ tag. item_with (key_name key) (is_folder_key key) tag value) (tag_at value)
+abbrev pub entry_reading : List ℕ → Data → Option Entry
+entry_reading key value = if is_name (key_name key)
+    then option_map (λ tag. item_with (key_name key) (is_folder_key key) tag value) (item_tag value)
     else None
 
 -- what follows an item, or the fault of its key
-abbrev pub go_on : Option Entry → List ℕ → (Entry → Result (List Entry) FolderFault) → Result (List Entry) FolderFault
-go_on None key reading = Err (BadItem key)
-go_on (Some item) key reading = reading item
+abbrev pub after_entry : Option Entry → List ℕ → (Entry → Result (List Entry) FolderFault) → Result (List Entry) FolderFault
+after_entry None key reading = Err (BadItem key)
+after_entry (Some item) key reading = reading item
 
 -- these items and those of the members, which an object has in the byte order of their keys
 abbrev pub items_from : List Entry → Members → Result (List Entry) FolderFault
 items_from items no_members = Ok items
-items_from items (member key value members) = go_on (item_reading key value) key
+items_from items (member key value members) = after_entry (entry_reading key value) key
     (λ item. items_from (items ++ item ∷ []) members)
 
 -- the items of an object `items`
@@ -82,9 +82,9 @@ abbrev pub folder_reading : List ℕ → Result (List Entry) FolderFault
 folder_reading bytes = if is_utf8 bytes then value_reading (read bytes) else Err NotJson
 
 -- the call read this, or memory ran out
-abbrev pub Reads : Result (List Entry) FolderFault → Result (List Entry) FolderFault → Type 0
-Reads (Ok items) wanted = wanted ≡ Ok items
-Reads (Err NotJson) wanted = wanted ≡ Err NotJson
-Reads (Err NoItems) wanted = wanted ≡ Err NoItems
-Reads (Err (BadItem name)) wanted = wanted ≡ Err (BadItem name)
-Reads (Err NoMemory) wanted = Unit {0}
+abbrev pub ReadsFolder : Result (List Entry) FolderFault → Result (List Entry) FolderFault → Type 0
+ReadsFolder (Ok items) wanted = wanted ≡ Ok items
+ReadsFolder (Err NotJson) wanted = wanted ≡ Err NotJson
+ReadsFolder (Err NoItems) wanted = wanted ≡ Err NoItems
+ReadsFolder (Err (BadItem name)) wanted = wanted ≡ Err (BadItem name)
+ReadsFolder (Err NoMemory) wanted = Unit {0}

@@ -3,7 +3,7 @@ use Rattle.std.specs.Prelude.{ℕ, Bool, true, ◌&&◌, List, [], ◌∷◌, is
 use Rattle.std.specs.Ordering.{nat_cmp, is_lt}
 use Rattle.std.specs.Cmp.Lexicographic.{slice_cmp}
 use Rattle.serde_json.specs.Data.{Members, no_members, member}
-use Rattle.rs_folder.specs.FolderReadings.{item_reading}
+use Rattle.rs_folder.specs.FolderReadings.{entry_reading}
 
 -- the key comes before those of the members, byte by byte
 abbrev pub is_before : List ℕ → Members → Bool
@@ -18,4 +18,4 @@ keys_ascend (member key value members) = is_before key members && keys_ascend me
 -- the keys at which no item is
 abbrev pub wrong_keys : Members → List (List ℕ)
 wrong_keys no_members = []
-wrong_keys (member key value members) = if is_none (item_reading key value) then key ∷ wrong_keys members else wrong_keys members
+wrong_keys (member key value members) = if is_none (entry_reading key value) then key ∷ wrong_keys members else wrong_keys members

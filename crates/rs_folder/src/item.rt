@@ -2,7 +2,7 @@
 
 ghost use Rattle.std.specs.Prelude.{◌≡◌, IfOk, option_map};
 ghost use Rattle.serde_json.specs.View.{view};
-ghost use Rattle.rs_folder.specs.FolderReadings.{item_reading, item_with, text_at, tag_at, kind_at, length_at, key_name, is_folder_key};
+ghost use Rattle.rs_folder.specs.FolderReadings.{entry_reading, item_with, text_at, item_tag, item_kind, item_length, key_name, is_folder_key};
 
 use rs_path::{Entry, Kind, Name, NoMemory, Tag};
 use serde_json::Value;
@@ -10,7 +10,7 @@ use std::alloc::Global;
 
 /// The item at a key, or None where its name or its tag is none.
 pub(crate) fn read_item(alloc: Global, key: &str, value: &Value) -> Result<Option<Entry>, NoMemory>
-    ensures { IfOk result (λ item. item ≡ item_reading key.now (view value.now)) }
+    ensures { IfOk result (λ item. item ≡ entry_reading key.now (view value.now)) }
 {
     let (name, folder) = split_key(key.as_bytes());
     let Some(name) = Name::read(alloc, name)? else {
@@ -62,7 +62,7 @@ fn split_key(key: &[u8]) -> (&[u8], bool)
 }
 
 fn read_tag(alloc: Global, value: &Value) -> Result<Option<Tag>, NoMemory>
-    ensures { IfOk result (λ tag. tag ≡ tag_at (view value.now)) }
+    ensures { IfOk result (λ tag. tag ≡ item_tag (view value.now)) }
 {
     match text_at(value, "ETag") {
         Some(text) => Tag::read(alloc, text.as_bytes()),
@@ -71,7 +71,7 @@ fn read_tag(alloc: Global, value: &Value) -> Result<Option<Tag>, NoMemory>
 }
 
 fn read_kind(alloc: Global, value: &Value) -> Result<Option<Kind>, NoMemory>
-    ensures { IfOk result (λ kind. kind ≡ kind_at (view value.now)) }
+    ensures { IfOk result (λ kind. kind ≡ item_kind (view value.now)) }
 {
     match text_at(value, "Content-Type") {
         Some(text) => Kind::read(alloc, text.as_bytes()),
@@ -80,7 +80,7 @@ fn read_kind(alloc: Global, value: &Value) -> Result<Option<Kind>, NoMemory>
 }
 
 fn read_length(value: &Value) -> Option<u64>
-    ensures { result ≡ length_at (view value.now) }
+    ensures { result ≡ item_length (view value.now) }
 {
     value.get("Content-Length").and_then(Value::as_u64)
 }

@@ -7,8 +7,6 @@ mod item;
 mod laws;
 mod parts;
 mod reading;
-#[cfg(test)]
-mod tests;
 mod writing;
 
 pub use folder_fault::FolderFault;

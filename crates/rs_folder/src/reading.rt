@@ -3,7 +3,7 @@
 ghost use Rattle.std.specs.Prelude.{◌≡◌, [], Some, Err, option_map};
 ghost use Rattle.serde_json.specs.Read.{read};
 ghost use Rattle.serde_json.specs.View.{view, members_view};
-ghost use Rattle.rs_folder.specs.FolderReadings.{items_from, items_reading, value_reading, folder_reading, Reads};
+ghost use Rattle.rs_folder.specs.FolderReadings.{items_from, items_reading, value_reading, folder_reading, ReadsFolder};
 
 use crate::folder_fault::FolderFault;
 use crate::item::read_item;
@@ -19,7 +19,7 @@ use std::alloc::Global;
 ///
 /// draft-dejong-remotestorage, section 4, folder description.
 pub fn read_folder(alloc: Global, bytes: &[u8]) -> Result<Items, FolderFault>
-    ensures read { Reads result (folder_reading bytes.now) }
+    ensures read { ReadsFolder result (folder_reading bytes.now) }
 {
     match Value::from_slice(alloc, bytes) {
         Ok(value) => read_value(alloc, &value),
@@ -31,7 +31,7 @@ pub fn read_folder(alloc: Global, bytes: &[u8]) -> Result<Items, FolderFault>
 }
 
 fn read_value(alloc: Global, value: &Value) -> Result<Items, FolderFault>
-    ensures { Reads result (value_reading (Some (view value.now))) }
+    ensures { ReadsFolder result (value_reading (Some (view value.now))) }
 {
     match members_of(value) {
         Some(members) => read_members(alloc, members),
@@ -50,7 +50,7 @@ fn members_of(value: &Value) -> Option<&Map<String, Value>>
 }
 
 fn read_members(alloc: Global, members: &Map<String, Value>) -> Result<Items, FolderFault>
-    ensures { Reads result (items_from [] (members_view members.now.entries)) }
+    ensures { ReadsFolder result (items_from [] (members_view members.now.entries)) }
 {
     let mut items = Items::new(alloc);
     for (key, value) in members.iter() {
@@ -63,7 +63,7 @@ fn read_members(alloc: Global, members: &Map<String, Value>) -> Result<Items, Fo
 }
 
 fn bad_item(alloc: Global, key: &str) -> FolderFault
-    ensures { Reads (Err result) (Err (FolderFault.BadItem key.now)) }
+    ensures { ReadsFolder (Err result) (Err (FolderFault.BadItem key.now)) }
 {
     match Vec::from_slice(alloc, key.as_bytes()) {
         Ok(name) => FolderFault::BadItem {

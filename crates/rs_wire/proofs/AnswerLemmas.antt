@@ -9,14 +9,14 @@ use Rattle.rs_wire.specs.declared.fault.WireWhy.TheVariants.{BadHead, HeadLong}
 use Rattle.rs_wire.specs.declared.framing.Framing.{Framing}
 use Rattle.rs_wire.specs.declared.head.Begun.{Begun}
 use Rattle.rs_wire.specs.declared.message.RequestMessage.{RequestMessage}
-use Rattle.rs_wire.specs.declared.limits.TheConstants.{FIELD_LIMIT, HEAD_LIMIT}
+use Rattle.rs_wire.specs.Limits.{max_fields, max_head}
 use Rattle.rs_wire.specs.declared.search.Spot.TheVariants.{Before}
-use Rattle.rs_wire.specs.Lines.{empty_line, past_breaks}
+use Rattle.rs_wire.specs.Lines.{first_empty_line, past_breaks}
 use Rattle.rs_wire.specs.Framing.{head_framing}
 use Rattle.rs_wire.specs.RequestTexts.{request_head}
-use Rattle.rs_wire.specs.RequestHeads.{fields_of, begun_at, begun_by, judged_head, judged, long_head, with_length, head_ending, head_of}
+use Rattle.rs_wire.specs.RequestHeads.{fields_of, begun_at, begun_by, judged_head, judged_request, long_head, with_length, head_ending, head_at}
 use Rattle.rs_wire.specs.Bodies.{Body, unended, ended, spoiled, first_part, body_from}
-use Rattle.rs_wire.specs.Readings.{Reading, unread, refused, begun, reading_by, reading, Fed, interim, message, with_body, body_answer, answer_by, answer}
+use Rattle.rs_wire.specs.Readings.{Reading, unread, refused, begun, reading_by, request_reading, Fed, interim, message, with_body, body_answer, answer_by, next_of}
 use Rattle.rs_wire.specs.Division.{message_by, message_at}
 use Rattle.rs_wire.specs.Laws.{awaits_by, awaits}
 
@@ -24,7 +24,7 @@ use Rattle.rs_wire.specs.Laws.{awaits_by, awaits}
 
 -- the head takes so many bytes, up to its first empty line, and it is one of the grammar that begins this request
 pub record IsHeadRead (place : ℕ) (bytes : List ℕ) (b : Begun) (n : ℕ) : Type 0 where
-  pub ends : empty_line Before (take HEAD_LIMIT bytes) ≡ Some n
+  pub ends : first_empty_line Before (take max_head bytes) ≡ Some n
   pub head : RequestHead
   pub is : request_head (past_breaks (take n bytes)) ≡ Some head
   pub judged : judged_head place head ≡ Ok b
@@ -38,9 +38,9 @@ count_of b n m (Ok c) e =
 count_of b n m (Err why) e = cc
 
 -- the grammar's head is there
-judged_is : (place : ℕ) (text : List ℕ) (b : Begun) → judged place text ≡ Ok b
+judged_is : (place : ℕ) (text : List ℕ) (b : Begun) → judged_request place text ≡ Ok b
     → (h : RequestHead) × (request_head text ≡ Some h) × (judged_head place h ≡ Ok b)
-unfolding judged
+unfolding judged_request
 judged_is place text b e = by_head (request_head text) refl e
   where
     by_head : (o : Option RequestHead) → request_head text ≡ o → option_map_or (judged_head place) o (Err BadHead) ≡ Ok b
@@ -48,21 +48,21 @@ judged_is place text b e = by_head (request_head text) refl e
     by_head None f e = cc
     by_head (Some h) f e = (h, f, e)
 
-pub head_is_read : (place : ℕ) (bytes : List ℕ) (b : Begun) (n : ℕ) → head_of place bytes ≡ Some (Ok (b, n)) → IsHeadRead place bytes b n
-unfolding head_of
-head_is_read place bytes b n e = by_line (empty_line Before (take HEAD_LIMIT bytes)) refl e
+pub head_is_read : (place : ℕ) (bytes : List ℕ) (b : Begun) (n : ℕ) → head_at place bytes ≡ Some (Ok (b, n)) → IsHeadRead place bytes b n
+unfolding head_at
+head_is_read place bytes b n e = by_line (first_empty_line Before (take max_head bytes)) refl e
   where
     by_test : (t : Bool) (why : WireWhy) (h : Begun × ℕ) → cond t None (Some (Err why)) ≡ Some (Ok h) → ⊥
     by_test true why h e = cc
     by_test false why h e = cc
 
-    by_line : (o : Option ℕ) → empty_line Before (take HEAD_LIMIT bytes) ≡ o → head_ending place bytes o ≡ Some (Ok (b, n)) → IsHeadRead place bytes b n
-    by_line None found e = absurd (by_test (nat_lt (length bytes) HEAD_LIMIT) (long_head (take HEAD_LIMIT bytes)) (b, n) e)
+    by_line : (o : Option ℕ) → first_empty_line Before (take max_head bytes) ≡ o → head_ending place bytes o ≡ Some (Ok (b, n)) → IsHeadRead place bytes b n
+    by_line None found e = absurd (by_test (nat_lt (length bytes) max_head) (long_head (take max_head bytes)) (b, n) e)
     by_line (Some m) found e =
-        let inner : with_length m (judged place (past_breaks (take m bytes))) ≡ Ok (b, n) = cc in
-        let parts = count_of b n m (judged place (past_breaks (take m bytes))) inner in
+        let inner : with_length m (judged_request place (past_breaks (take m bytes))) ≡ Ok (b, n) = cc in
+        let parts = count_of b n m (judged_request place (past_breaks (take m bytes))) inner in
         let same = parts.1 in
-        let is = judged_is place (past_breaks (take n bytes)) b (ap (λ k. judged place (past_breaks (take k bytes))) (sym same) ∙ parts.0) in
+        let is = judged_is place (past_breaks (take n bytes)) b (ap (λ k. judged_request place (past_breaks (take k bytes))) (sym same) ∙ parts.0) in
         record { ends = found ∙ ap Some same; head = is.0; is = is.1; judged = is.2 }
 
 -- ---- the request that was read
@@ -71,15 +71,15 @@ head_is_read place bytes b n e = by_line (empty_line Before (take HEAD_LIMIT byt
 pub record IsReadAs (place : ℕ) (bytes : List ℕ) (m : RequestMessage) (next : ℕ) : Type 0 where
   pub begun : Begun
   pub count : ℕ
-  pub head : head_of place bytes ≡ Some (Ok (begun, count))
+  pub head : head_at place bytes ≡ Some (Ok (begun, count))
   pub body : body_from (first_part begun.framing) [] (place + count) (drop count bytes) ≡ ended m.body next
   pub same : m ≡ with_body begun.message m.body
 
 pub message_is_read : (place : ℕ) (bytes : List ℕ) (m : RequestMessage) (next : ℕ) → message_at place bytes ≡ Some (m, next) → IsReadAs place bytes m next
-unfolding message_at reading
-message_is_read place bytes m next e = by_head (head_of place bytes) refl e
+unfolding message_at request_reading
+message_is_read place bytes m next e = by_head (head_at place bytes) refl e
   where
-    by_body : (b : Begun) (n : ℕ) → head_of place bytes ≡ Some (Ok (b, n)) → (x : Body)
+    by_body : (b : Begun) (n : ℕ) → head_at place bytes ≡ Some (Ok (b, n)) → (x : Body)
         → body_from (first_part b.framing) [] (place + n) (drop n bytes) ≡ x → message_by (begun b x) ≡ Some (m, next) → IsReadAs place bytes m next
     by_body b n f unended g e = cc
     by_body b n f (spoiled w) g e = cc
@@ -92,14 +92,14 @@ message_is_read place bytes m next e = by_head (head_of place bytes) refl e
           same = sym (λ i. (p i).0) ∙ (λ i. with_body b.message (p i).0.body);
         }
 
-    by_head : (o : HeadFound) → head_of place bytes ≡ o → message_by (reading_by place bytes o) ≡ Some (m, next) → IsReadAs place bytes m next
+    by_head : (o : HeadFound) → head_at place bytes ≡ o → message_by (reading_by place bytes o) ≡ Some (m, next) → IsReadAs place bytes m next
     by_head None f e = cc
     by_head (Some (Err why)) f e = cc
     by_head (Some (Ok (b, n))) f e = by_body b n f (body_from (first_part b.framing) [] (place + n) (drop n bytes)) refl e
 
 reading_is : (place : ℕ) (bytes : List ℕ) (m : RequestMessage) (next : ℕ) (r : IsReadAs place bytes m next)
-    → reading place bytes ≡ begun r.begun (ended m.body next)
-unfolding reading
+    → request_reading place bytes ≡ begun r.begun (ended m.body next)
+unfolding request_reading
 reading_is place bytes m next r = ap (reading_by place bytes) r.head ∙ ap (begun r.begun) r.body
 
 -- ---- the interim reply
@@ -109,7 +109,7 @@ judged_parts : (place : ℕ) (h : RequestHead) (b : Begun) → judged_head place
     → (framing : Framing) × (head_framing h.minor (length h.target) (fields_of h.fields) ≡ Ok framing)
     × (b ≡ begun_at place h.method h.target h.minor (fields_of h.fields) framing)
 unfolding judged_head
-judged_parts place h b e = by_test (nat_lt FIELD_LIMIT (length h.fields)) e
+judged_parts place h b e = by_test (nat_lt max_fields (length h.fields)) e
   where
     by_framing : (r : Result Framing WireWhy) → head_framing h.minor (length h.target) (fields_of h.fields) ≡ r
         → begun_by place h.method h.target h.minor (fields_of h.fields) r ≡ Ok b
@@ -137,8 +137,8 @@ awaits_is place bytes m next r =
 
 -- the interim reply where it is due, and the request otherwise
 pub message_answered : (fed : Fed) (m : RequestMessage) (next : ℕ) → fed.fault ≡ None → message_at fed.place fed.bytes ≡ Some (m, next)
-    → answer fed ≡ cond (awaits m && not fed.told) interim (message m next)
-unfolding answer
+    → next_of fed ≡ cond (awaits m && not fed.told) interim (message m next)
+unfolding next_of
 message_answered fed m next none e =
     let r = message_is_read fed.place fed.bytes m next e in
     let due = awaits_is fed.place fed.bytes m next r in
@@ -147,9 +147,9 @@ message_answered fed m next none e =
     ∙ (λ i. cond (due i && not fed.told) interim (message (same i) next))
 
 -- what was answered as a request is that of the bytes
-pub answered_message : (fed : Fed) (m : RequestMessage) (next : ℕ) → answer fed ≡ message m next → message_at fed.place fed.bytes ≡ Some (m, next)
-unfolding answer message_at
-answered_message fed m next e = by_fault fed.fault (reading fed.place fed.bytes) e
+pub answered_message : (fed : Fed) (m : RequestMessage) (next : ℕ) → next_of fed ≡ message m next → message_at fed.place fed.bytes ≡ Some (m, next)
+unfolding next_of message_at
+answered_message fed m next e = by_fault fed.fault (request_reading fed.place fed.bytes) e
   where
     by_body : (b : Begun) (x : Body) → body_answer b x ≡ message m next → message_by (begun b x) ≡ Some (m, next)
     by_body b unended e = cc

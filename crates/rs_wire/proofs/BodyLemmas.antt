@@ -9,8 +9,8 @@ use Rattle.rs_wire.specs.declared.fault.WireWhy.TheVariants.{BadChunk}
 use Rattle.rs_wire.specs.declared.body.Part.{Part}
 use Rattle.rs_wire.specs.declared.body.Part.TheVariants.{Length, Line, Data, Trailer}
 use Rattle.rs_wire.specs.declared.search.Spot.TheVariants.{Fresh}
-use Rattle.rs_wire.specs.declared.limits.TheConstants.{CHUNK_LINE_LIMIT, TRAILER_LIMIT}
-use Rattle.rs_wire.specs.Lines.{first_line, empty_line}
+use Rattle.rs_wire.specs.Limits.{max_chunk_line, max_trailer}
+use Rattle.rs_wire.specs.Lines.{first_line, first_empty_line}
 use Rattle.rs_wire.specs.ChunkTexts.{size_of}
 use Rattle.rs_wire.specs.Bodies.{unended, ended, spoiled, Turn, waits, goes, ends, fails, fault_at, next_part, size_turn, line_turn, trailer_turn, has_line_end, turn, after_turn, parts, body_from}
 use Rattle.rs_wire.proofs.LinesLemmas.{empty_line_is_found, first_line_is_first, window_more, length-window}
@@ -43,25 +43,25 @@ either_count rest s t false one other = other
 
 pub turn_count : (part : Part) (body : List ℕ) (at : ℕ) (rest : List ℕ) → IsCount rest (turn part body at rest)
 turn_count (Length n) body at rest = if_waits rest n (ends (body ++ take n rest) n) (nat_lt (length rest) n) refl (λ within. within)
-turn_count (Line sought) body at rest = by_line (first_line (take CHUNK_LINE_LIMIT rest)) refl
+turn_count (Line sought) body at rest = by_line (first_line (take max_chunk_line rest)) refl
   where
-    by_line : (o : Option ℕ) → first_line (take CHUNK_LINE_LIMIT rest) ≡ o → IsCount rest (line_turn body at rest o)
-    by_line None e = either_count rest waits (fails (fault_at BadChunk at)) (nat_lt (length rest) CHUNK_LINE_LIMIT) tt tt
+    by_line : (o : Option ℕ) → first_line (take max_chunk_line rest) ≡ o → IsCount rest (line_turn body at rest o)
+    by_line None e = either_count rest waits (fails (fault_at BadChunk at)) (nat_lt (length rest) max_chunk_line) tt tt
     by_line (Some n) e =
-        let first = first_line_is_first (take CHUNK_LINE_LIMIT rest) n e in
+        let first = first_line_is_first (take max_chunk_line rest) n e in
         let w = first.within in
-        size_count body at n rest (next_part (length body) (size_of (take n rest))) first.some (omega (arith, length-window CHUNK_LINE_LIMIT rest))
+        size_count body at n rest (next_part (length body) (size_of (take n rest))) first.some (omega (arith, length-window max_chunk_line rest))
 turn_count (Data n) body at rest =
     if_waits rest (n + 2) _ (nat_lt (length rest) (n + 2)) refl (λ within.
     either_count rest (goes (Line 0) (body ++ take n rest) (n + 2)) (fails (fault_at BadChunk (at + n))) (has_line_end (drop n rest)) (omega arith, within) tt)
-turn_count (Trailer search) body at rest = by_line (empty_line Fresh (take TRAILER_LIMIT rest)) refl
+turn_count (Trailer search) body at rest = by_line (first_empty_line Fresh (take max_trailer rest)) refl
   where
-    by_line : (o : Option ℕ) → empty_line Fresh (take TRAILER_LIMIT rest) ≡ o → IsCount rest (trailer_turn body at rest o)
-    by_line None e = either_count rest waits (fails (fault_at BadChunk at)) (nat_lt (length rest) TRAILER_LIMIT) tt tt
+    by_line : (o : Option ℕ) → first_empty_line Fresh (take max_trailer rest) ≡ o → IsCount rest (trailer_turn body at rest o)
+    by_line None e = either_count rest waits (fails (fault_at BadChunk at)) (nat_lt (length rest) max_trailer) tt tt
     by_line (Some n) e =
-        let found = empty_line_is_found Fresh (take TRAILER_LIMIT rest) n e in
+        let found = empty_line_is_found Fresh (take max_trailer rest) n e in
         let w = found.within in
-        omega (arith, length-window TRAILER_LIMIT rest)
+        omega (arith, length-window max_trailer rest)
 
 -- a turn that isn't the same with more bytes waits
 abbrev stays : List ℕ → Turn → Turn → Type 0
@@ -90,48 +90,48 @@ pub turn_settled : (part : Part) (body : List ℕ) (at : ℕ) (rest more : List 
 turn_settled (Length n) body at rest more =
     if_settled rest more n (ends (body ++ take n (rest ++ more)) n) (ends (body ++ take n rest) n) (nat_lt (length rest) n) refl (λ within.
     ap (λ xs. ends (body ++ xs) n) (take-append-le n rest more within))
-turn_settled (Line sought) body at rest more = by_line (first_line (take CHUNK_LINE_LIMIT rest)) refl
+turn_settled (Line sought) body at rest more = by_line (first_line (take max_chunk_line rest)) refl
   where
-    by_line : (o : Option ℕ) → first_line (take CHUNK_LINE_LIMIT rest) ≡ o
-        → IsSettled (λ t. line_turn body at (rest ++ more) (first_line (take CHUNK_LINE_LIMIT (rest ++ more))) ≡ t) (line_turn body at rest o)
-    by_line None e = by_test (nat_lt (length rest) CHUNK_LINE_LIMIT) refl
+    by_line : (o : Option ℕ) → first_line (take max_chunk_line rest) ≡ o
+        → IsSettled (λ t. line_turn body at (rest ++ more) (first_line (take max_chunk_line (rest ++ more))) ≡ t) (line_turn body at rest o)
+    by_line None e = by_test (nat_lt (length rest) max_chunk_line) refl
       where
-        by_test : (b : Bool) → nat_lt (length rest) CHUNK_LINE_LIMIT ≡ b
-            → IsSettled (λ t. line_turn body at (rest ++ more) (first_line (take CHUNK_LINE_LIMIT (rest ++ more))) ≡ t) (cond b waits (fails (fault_at BadChunk at)))
+        by_test : (b : Bool) → nat_lt (length rest) max_chunk_line ≡ b
+            → IsSettled (λ t. line_turn body at (rest ++ more) (first_line (take max_chunk_line (rest ++ more))) ≡ t) (cond b waits (fails (fault_at BadChunk at)))
         by_test true f = tt
         by_test false f =
-            let within : CHUNK_LINE_LIMIT ≤ length rest = ltb-false _ _ f in
-            ap (line_turn body at (rest ++ more)) (ap first_line (full_window CHUNK_LINE_LIMIT rest more within) ∙ e)
-            ∙ cond-false _ waits (fails (fault_at BadChunk at)) (le-ltb (length (rest ++ more)) CHUNK_LINE_LIMIT (omega (arith, length-append rest more)))
+            let within : max_chunk_line ≤ length rest = ltb-false _ _ f in
+            ap (line_turn body at (rest ++ more)) (ap first_line (full_window max_chunk_line rest more within) ∙ e)
+            ∙ cond-false _ waits (fails (fault_at BadChunk at)) (le-ltb (length (rest ++ more)) max_chunk_line (omega (arith, length-append rest more)))
     by_line (Some n) e =
-        let first = first_line_is_first (take CHUNK_LINE_LIMIT rest) n e in
+        let first = first_line_is_first (take max_chunk_line rest) n e in
         let w = first.within in
-        let larger = window_more CHUNK_LINE_LIMIT rest more in
+        let larger = window_more max_chunk_line rest more in
         settled _ _ (ap (line_turn body at (rest ++ more)) (ap first_line larger.1 ∙ first.stays larger.0)
-        ∙ ap (λ xs. size_turn body at n (next_part (length body) (size_of xs))) (take-append-le n rest more (omega (arith, length-window CHUNK_LINE_LIMIT rest))))
+        ∙ ap (λ xs. size_turn body at n (next_part (length body) (size_of xs))) (take-append-le n rest more (omega (arith, length-window max_chunk_line rest))))
 turn_settled (Data n) body at rest more =
     if_settled rest more (n + 2) _ _ (nat_lt (length rest) (n + 2)) refl (λ within.
     let two : take 2 (drop n (rest ++ more)) ≡ take 2 (drop n rest) =
     ap (take 2) (drop-append-le n rest more (omega arith)) ∙ take-append-le 2 (drop n rest) more (omega (arith, length-drop n rest)) in
     let taken = take-append-le n rest more (omega arith) in
     (λ i. cond (bytes_eq (two i) (13 ∷ 10 ∷ [])) (goes (Line 0) (body ++ taken i) (n + 2)) (fails (fault_at BadChunk (at + n)))))
-turn_settled (Trailer search) body at rest more = by_line (empty_line Fresh (take TRAILER_LIMIT rest)) refl
+turn_settled (Trailer search) body at rest more = by_line (first_empty_line Fresh (take max_trailer rest)) refl
   where
-    by_line : (o : Option ℕ) → empty_line Fresh (take TRAILER_LIMIT rest) ≡ o
-        → IsSettled (λ t. trailer_turn body at (rest ++ more) (empty_line Fresh (take TRAILER_LIMIT (rest ++ more))) ≡ t) (trailer_turn body at rest o)
-    by_line None e = by_test (nat_lt (length rest) TRAILER_LIMIT) refl
+    by_line : (o : Option ℕ) → first_empty_line Fresh (take max_trailer rest) ≡ o
+        → IsSettled (λ t. trailer_turn body at (rest ++ more) (first_empty_line Fresh (take max_trailer (rest ++ more))) ≡ t) (trailer_turn body at rest o)
+    by_line None e = by_test (nat_lt (length rest) max_trailer) refl
       where
-        by_test : (b : Bool) → nat_lt (length rest) TRAILER_LIMIT ≡ b
-            → IsSettled (λ t. trailer_turn body at (rest ++ more) (empty_line Fresh (take TRAILER_LIMIT (rest ++ more))) ≡ t) (cond b waits (fails (fault_at BadChunk at)))
+        by_test : (b : Bool) → nat_lt (length rest) max_trailer ≡ b
+            → IsSettled (λ t. trailer_turn body at (rest ++ more) (first_empty_line Fresh (take max_trailer (rest ++ more))) ≡ t) (cond b waits (fails (fault_at BadChunk at)))
         by_test true f = tt
         by_test false f =
-            let within : TRAILER_LIMIT ≤ length rest = ltb-false _ _ f in
-            ap (trailer_turn body at (rest ++ more)) (ap (empty_line Fresh) (full_window TRAILER_LIMIT rest more within) ∙ e)
-            ∙ cond-false _ waits (fails (fault_at BadChunk at)) (le-ltb (length (rest ++ more)) TRAILER_LIMIT (omega (arith, length-append rest more)))
+            let within : max_trailer ≤ length rest = ltb-false _ _ f in
+            ap (trailer_turn body at (rest ++ more)) (ap (first_empty_line Fresh) (full_window max_trailer rest more within) ∙ e)
+            ∙ cond-false _ waits (fails (fault_at BadChunk at)) (le-ltb (length (rest ++ more)) max_trailer (omega (arith, length-append rest more)))
     by_line (Some n) e =
-        let found = empty_line_is_found Fresh (take TRAILER_LIMIT rest) n e in
-        let larger = window_more TRAILER_LIMIT rest more in
-        ap (trailer_turn body at (rest ++ more)) (ap (empty_line Fresh) larger.1 ∙ found.stays larger.0)
+        let found = empty_line_is_found Fresh (take max_trailer rest) n e in
+        let larger = window_more max_trailer rest more in
+        ap (trailer_turn body at (rest ++ more)) (ap (first_empty_line Fresh) larger.1 ∙ found.stays larger.0)
 
 -- fuel past the bytes changes nothing
 pub parts_fuel : (f g : ℕ) (part : Part) (body : List ℕ) (at : ℕ) (rest : List ℕ) → length rest < f → length rest < g

@@ -8,12 +8,12 @@ use Rattle.rs_wire.specs.declared.body.Part.{Part}
 use Rattle.rs_wire.specs.declared.head.Begun.{Begun}
 use Rattle.rs_wire.specs.declared.message.RequestMessage.{RequestMessage}
 use Rattle.rs_wire.specs.declared.message.Step.TheVariants.{Message}
-use Rattle.rs_wire.specs.declared.limits.TheConstants.{HEAD_LIMIT}
+use Rattle.rs_wire.specs.Limits.{max_head}
 use Rattle.rs_wire.specs.declared.search.Spot.TheVariants.{Before}
-use Rattle.rs_wire.specs.Lines.{empty_line, past_breaks}
-use Rattle.rs_wire.specs.RequestHeads.{long_head, with_length, judged, head_ending, head_of}
+use Rattle.rs_wire.specs.Lines.{first_empty_line, past_breaks}
+use Rattle.rs_wire.specs.RequestHeads.{long_head, with_length, judged_request, head_ending, head_at}
 use Rattle.rs_wire.specs.Bodies.{Body, unended, ended, spoiled, Turn, waits, goes, ends, fails, turn, first_part, body_from}
-use Rattle.rs_wire.specs.Readings.{Reading, unread, refused, begun, reading_by, reading, Fed, interim, with_body, body_answer, answer_by, answer, step_of, fed_after}
+use Rattle.rs_wire.specs.Readings.{Reading, unread, refused, begun, reading_by, request_reading, Fed, interim, with_body, body_answer, answer_by, next_of, step_of, fed_after}
 use Rattle.rs_wire.specs.Division.{message_by, message_at, Divides, fed_next}
 use Rattle.rs_wire.proofs.LinesLemmas.{empty_line_is_found, length-window}
 use Rattle.rs_wire.proofs.HeadLemmas.{head_stays}
@@ -70,21 +70,21 @@ length_of b n m (Ok c) e =
     let p : ◌≡◌ {A = Begun × ℕ} (c, m) (b, n) = cc in λ i. (p i).1
 length_of b n m (Err why) e = cc
 
-head_within : (place : ℕ) (bytes : List ℕ) (b : Begun) (n : ℕ) → head_of place bytes ≡ Some (Ok (b, n)) → n ≤ length bytes
-unfolding head_of
-head_within place bytes b n e = by_line (empty_line Before (take HEAD_LIMIT bytes)) refl e
+head_within : (place : ℕ) (bytes : List ℕ) (b : Begun) (n : ℕ) → head_at place bytes ≡ Some (Ok (b, n)) → n ≤ length bytes
+unfolding head_at
+head_within place bytes b n e = by_line (first_empty_line Before (take max_head bytes)) refl e
   where
     by_test : (t : Bool) (why : WireWhy) (h : Begun × ℕ) → cond t None (Some (Err why)) ≡ Some (Ok h) → ⊥
     by_test true why h e = cc
     by_test false why h e = cc
 
-    by_line : (o : Option ℕ) → empty_line Before (take HEAD_LIMIT bytes) ≡ o → head_ending place bytes o ≡ Some (Ok (b, n)) → n ≤ length bytes
-    by_line None found e = absurd (by_test (nat_lt (length bytes) HEAD_LIMIT) (long_head (take HEAD_LIMIT bytes)) (b, n) e)
+    by_line : (o : Option ℕ) → first_empty_line Before (take max_head bytes) ≡ o → head_ending place bytes o ≡ Some (Ok (b, n)) → n ≤ length bytes
+    by_line None found e = absurd (by_test (nat_lt (length bytes) max_head) (long_head (take max_head bytes)) (b, n) e)
     by_line (Some m) found e =
-        let inner : with_length m (judged place (past_breaks (take m bytes))) ≡ Ok (b, n) = cc in
-        let same = length_of b n m (judged place (past_breaks (take m bytes))) inner in
-        let within = (empty_line_is_found Before (take HEAD_LIMIT bytes) m found).within in
-        omega (arith, length-window HEAD_LIMIT bytes)
+        let inner : with_length m (judged_request place (past_breaks (take m bytes))) ≡ Ok (b, n) = cc in
+        let same = length_of b n m (judged_request place (past_breaks (take m bytes))) inner in
+        let within = (empty_line_is_found Before (take max_head bytes) m found).within in
+        omega (arith, length-window max_head bytes)
 
 -- a message ends within the bytes, and stays whatever follows
 pub record IsMessageAt (place : ℕ) (bytes : List ℕ) (m : RequestMessage) (next : ℕ) : Type 0 where
@@ -93,10 +93,10 @@ pub record IsMessageAt (place : ℕ) (bytes : List ℕ) (m : RequestMessage) (ne
   pub stays : (after : List ℕ) → message_at place (bytes ++ after) ≡ Some (m, next)
 
 -- what is read of a head and its body, with more bytes after them
-stays_begun : (place : ℕ) (bytes after : List ℕ) (b : Begun) (n : ℕ) (body : List ℕ) (end : ℕ) → head_of place bytes ≡ Some (Ok (b, n)) → n ≤ length bytes
+stays_begun : (place : ℕ) (bytes after : List ℕ) (b : Begun) (n : ℕ) (body : List ℕ) (end : ℕ) → head_at place bytes ≡ Some (Ok (b, n)) → n ≤ length bytes
     → body_from (first_part b.framing) [] (place + n) (drop n bytes ++ after) ≡ ended body end
-    → reading place (bytes ++ after) ≡ begun b (ended body end)
-unfolding reading
+    → request_reading place (bytes ++ after) ≡ begun b (ended body end)
+unfolding request_reading
 stays_begun place bytes after b n body end e within whole =
     ap (reading_by place (bytes ++ after)) (head_stays place bytes after (Ok (b, n)) e)
     ∙ ap (λ xs. begun b (body_from (first_part b.framing) [] (place + n) xs)) (drop-append-le n bytes after within)
@@ -104,10 +104,10 @@ stays_begun place bytes after b n body end e within whole =
 
 pub message_is_at : (place : ℕ) (bytes : List ℕ) (m : RequestMessage) (next : ℕ) → message_at place bytes ≡ Some (m, next)
     → IsMessageAt place bytes m next
-unfolding message_at reading
-message_is_at place bytes m next e = by_head (head_of place bytes) refl e
+unfolding message_at request_reading
+message_is_at place bytes m next e = by_head (head_at place bytes) refl e
   where
-    by_body : (b : Begun) (n : ℕ) → head_of place bytes ≡ Some (Ok (b, n)) → (x : Body)
+    by_body : (b : Begun) (n : ℕ) → head_at place bytes ≡ Some (Ok (b, n)) → (x : Body)
         → body_from (first_part b.framing) [] (place + n) (drop n bytes) ≡ x → message_by (begun b x) ≡ Some (m, next) → IsMessageAt place bytes m next
     by_body b n f unended g e = cc
     by_body b n f (spoiled w) g e = cc
@@ -123,7 +123,7 @@ message_is_at place bytes m next e = by_head (head_of place bytes) refl e
           stays = λ after. ap message_by (stays_begun place bytes after b n body end f within (is.stays after)) ∙ e;
         }
 
-    by_head : (o : HeadFound) → head_of place bytes ≡ o → message_by (reading_by place bytes o) ≡ Some (m, next) → IsMessageAt place bytes m next
+    by_head : (o : HeadFound) → head_at place bytes ≡ o → message_by (reading_by place bytes o) ≡ Some (m, next) → IsMessageAt place bytes m next
     by_head None f e = cc
     by_head (Some (Err why)) f e = cc
     by_head (Some (Ok (b, n))) f e = by_body b n f (body_from (first_part b.framing) [] (place + n) (drop n bytes)) refl e
@@ -197,10 +197,10 @@ one_division (m ∷ ms) (n ∷ ns) place bytes q s r t d e stop halt =
 
 -- ---- what `next` gives is the next message
 
-pub next_message : (fed : Fed) (m : RequestMessage) → step_of (answer fed) ≡ Ok (Message m)
-    → (next : ℕ) × (message_at fed.place fed.bytes ≡ Some (m, next)) × (fed_after fed (answer fed) ≡ fed_next fed next)
-unfolding answer message_at
-next_message fed m e = by_fault fed.fault (reading fed.place fed.bytes) e
+pub next_message : (fed : Fed) (m : RequestMessage) → step_of (next_of fed) ≡ Ok (Message m)
+    → (next : ℕ) × (message_at fed.place fed.bytes ≡ Some (m, next)) × (fed_after fed (next_of fed) ≡ fed_next fed next)
+unfolding next_of message_at
+next_message fed m e = by_fault fed.fault (request_reading fed.place fed.bytes) e
   where
     by_body : (b : Begun) (x : Body) → step_of (body_answer b x) ≡ Ok (Message m)
         → (next : ℕ) × (message_by (begun b x) ≡ Some (m, next)) × (fed_after fed (body_answer b x) ≡ fed_next fed next)

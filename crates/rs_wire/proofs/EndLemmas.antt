@@ -8,7 +8,7 @@ use Rattle.std.proofs.lemmas.Bool.{and_parts, and_from, not-true, ne_eqb, cond-f
 use Rattle.httparse.specs.Grammar.{IsToken, is_token_byte, is_value_byte, LineEnd, crlf, lf, print_end, Field, IsField, print_field, print_section}
 use Rattle.rs_wire.specs.declared.search.Spot.{Spot}
 use Rattle.rs_wire.specs.declared.search.Spot.TheVariants.{Before, Within, Fresh, Turned}
-use Rattle.rs_wire.specs.Lines.{is_break, next_spot, empty_line, spot_after}
+use Rattle.rs_wire.specs.Lines.{is_break, next_spot, first_empty_line, spot_after}
 use Rattle.rs_wire.proofs.LinesLemmas.{empty_line_found}
 use Rattle.rs_wire.proofs.TextLemmas.{test_from_AllPass, lacks, lacks_by, lacks_append, no_token_10, no_token_13}
 
@@ -88,21 +88,21 @@ field_lines_end (f ∷ fields) all =
 -- ---- the empty line
 
 empty_line_ends : (s : Spot) (xs : List ℕ) (last : LineEnd) → spot_after s xs ≡ Some Fresh
-    → empty_line s (xs ++ print_end last) ≡ Some (length (xs ++ print_end last))
+    → first_empty_line s (xs ++ print_end last) ≡ Some (length (xs ++ print_end last))
 empty_line_ends s xs lf at =
     let n : length xs + 1 ≡ length (xs ++ 10 ∷ []) = omega (arith, length-append xs (10 ∷ [])) in
     empty_line_found s Fresh xs 10 [] at refl ∙ ap Some n
 empty_line_ends s xs crlf at =
     let n : length (xs ++ 13 ∷ []) + 1 ≡ length (xs ++ 13 ∷ 10 ∷ []) = omega (arith, length-append xs (13 ∷ []), length-append xs (13 ∷ 10 ∷ [])) in
-    ap (empty_line s) (sym (append_assoc xs (13 ∷ []) (10 ∷ [])))
+    ap (first_empty_line s) (sym (append_assoc xs (13 ∷ []) (10 ∷ [])))
     ∙ empty_line_found s Turned (xs ++ 13 ∷ []) 10 [] (spot_more s Fresh xs (13 ∷ []) at) refl ∙ ap Some n
 
 -- a first line, field lines and an empty line
 pub section_ends : (first : List ℕ) (fields : List Field) (last : LineEnd) → spot_after Before first ≡ Some Fresh → All IsField fields
-    → empty_line Before (first ++ print_section fields last) ≡ Some (length (first ++ print_section fields last))
+    → first_empty_line Before (first ++ print_section fields last) ≡ Some (length (first ++ print_section fields last))
 section_ends first fields last at all =
     let same = append_assoc first (flat_map print_field fields) (print_end last) in
-    ap (empty_line Before) (sym same)
+    ap (first_empty_line Before) (sym same)
     ∙ empty_line_ends Before (first ++ flat_map print_field fields) last
     (spot_more Before Fresh first (flat_map print_field fields) at ∙ field_lines_end fields all)
     ∙ ap (λ xs. Some (length xs)) same

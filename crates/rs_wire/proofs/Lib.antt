@@ -1,27 +1,27 @@
-pub mod AnswerLemmas
-pub mod BodyLemmas
-pub mod ChunkLemmas
-pub mod DivisionLemmas
-pub mod EndLemmas
-pub mod HeadLemmas
-pub mod ItemLemmas
-pub mod LengthLemmas
-pub mod LinesLemmas
-pub mod MoveLemmas
-pub mod NameLemmas
-pub mod RepliedLemmas
-pub mod ReplyLemmas
-pub mod ReplySpellingLemmas
-pub mod ReplySteps
-pub mod ReplyTakenLemmas
-pub mod RequestLemmas
-pub mod RestLemmas
-pub mod RunLemmas
-pub mod SpellingLemmas
-pub mod StandsLemmas
-pub mod StreamLemmas
-pub mod TakenLemmas
-pub mod TextLemmas
-pub mod UnfinishedLemmas
-pub mod WritingSamples
-pub mod WrittenLemmas
+mod AnswerLemmas
+mod BodyLemmas
+mod ChunkLemmas
+pub mod Cited
+mod DivisionLemmas
+mod EndLemmas
+mod HeadLemmas
+mod ItemLemmas
+mod LengthLemmas
+mod LinesLemmas
+mod MoveLemmas
+mod NameLemmas
+mod RepliedLemmas
+mod ReplyLemmas
+mod ReplySpellingLemmas
+mod ReplySteps
+mod ReplyTakenLemmas
+mod RequestLemmas
+mod RestLemmas
+mod RunLemmas
+mod SpellingLemmas
+mod StandsLemmas
+mod StreamLemmas
+mod TakenLemmas
+mod TextLemmas
+mod UnfinishedLemmas
+mod WrittenLemmas

@@ -5,14 +5,14 @@ use Rattle.std.proofs.lemmas.Bool.{cond-true, cond-false, eq-eqb, ne_eqb}
 use Rattle.std.proofs.lemmas.List.{length-take}
 use Rattle.std.specs.Option.{option_map_or, option_and_then}
 use Rattle.rs_wire.specs.declared.search.Spot.{Spot}
-use Rattle.rs_wire.specs.Lines.{next_spot, empty_line, spot_after, first_line}
+use Rattle.rs_wire.specs.Lines.{next_spot, first_empty_line, spot_after, first_line}
 
 -- where the search goes on after a byte, and what it finds there
 abbrev goes_on : List ℕ → Option Spot → Option Spot
 goes_on xs o = option_and_then (λ next. spot_after next xs) o
 
 abbrev finds : List ℕ → Option Spot → Option ℕ
-finds xs o = option_map_or (λ next. option_map (λ n. n + 1) (empty_line next xs)) o (Some 1)
+finds xs o = option_map_or (λ next. option_map (λ n. n + 1) (first_empty_line next xs)) o (Some 1)
 
 -- one byte more
 pub spot_after_push : (s t : Spot) (xs : List ℕ) (b : ℕ) → spot_after s xs ≡ Some t → spot_after s (xs ++ b ∷ []) ≡ next_spot t b
@@ -29,12 +29,12 @@ spot_after_push s t (x ∷ xs) b h = step (next_spot s x) (λ u g. spot_after_pu
 
 -- the byte after them ends the first empty line
 pub empty_line_found : (s t : Spot) (xs : List ℕ) (b : ℕ) (ys : List ℕ) → spot_after s xs ≡ Some t → next_spot t b ≡ None
-    → empty_line s (xs ++ b ∷ ys) ≡ Some (length xs + 1)
+    → first_empty_line s (xs ++ b ∷ ys) ≡ Some (length xs + 1)
 empty_line_found s t [] b ys h e =
     let same : s ≡ t = cc in ap (finds ys) (ap (λ u. next_spot u b) same ∙ e)
 empty_line_found s t (x ∷ xs) b ys h e = step (next_spot s x) (λ u g. empty_line_found u t xs b ys g e) h
   where
-    step : (o : Option Spot) → ((u : Spot) → spot_after u xs ≡ Some t → empty_line u (xs ++ b ∷ ys) ≡ Some (length xs + 1))
+    step : (o : Option Spot) → ((u : Spot) → spot_after u xs ≡ Some t → first_empty_line u (xs ++ b ∷ ys) ≡ Some (length xs + 1))
         → goes_on xs o ≡ Some t → finds (xs ++ b ∷ ys) o ≡ Some (suc (length xs) + 1)
     step None again h = cc
     step (Some u) again h =
@@ -42,11 +42,11 @@ empty_line_found s t (x ∷ xs) b ys h e = step (next_spot s x) (λ u g. empty_l
         ap (option_map (λ n. n + 1)) (again u h) ∙ ap Some n
 
 -- none of them ends one
-pub empty_line_none : (s t : Spot) (xs : List ℕ) → spot_after s xs ≡ Some t → empty_line s xs ≡ None
+pub empty_line_none : (s t : Spot) (xs : List ℕ) → spot_after s xs ≡ Some t → first_empty_line s xs ≡ None
 empty_line_none s t [] h = refl
 empty_line_none s t (x ∷ xs) h = step (next_spot s x) (λ u g. empty_line_none u t xs g) h
   where
-    step : (o : Option Spot) → ((u : Spot) → spot_after u xs ≡ Some t → empty_line u xs ≡ None)
+    step : (o : Option Spot) → ((u : Spot) → spot_after u xs ≡ Some t → first_empty_line u xs ≡ None)
         → goes_on xs o ≡ Some t → finds xs o ≡ None
     step None again h = cc
     step (Some u) again h = ap (option_map (λ n. n + 1)) (again u h)
@@ -55,26 +55,26 @@ empty_line_none s t (x ∷ xs) h = step (next_spot s x) (λ u g. empty_line_none
 pub record IsFound (s : Spot) (xs : List ℕ) (n : ℕ) : Type 0 where
   pub some : 0 < n
   pub within : n ≤ length xs
-  pub stays : (ys : List ℕ) → empty_line s (xs ++ ys) ≡ Some n
+  pub stays : (ys : List ℕ) → first_empty_line s (xs ++ ys) ≡ Some n
 
-one_more : (u : Spot) (xs : List ℕ) (n : ℕ) (m : Option ℕ) → empty_line u xs ≡ m → option_map (λ n. n + 1) m ≡ Some n
-    → (k : ℕ) × (empty_line u xs ≡ Some k) × (k + 1 ≡ n)
+one_more : (u : Spot) (xs : List ℕ) (n : ℕ) (m : Option ℕ) → first_empty_line u xs ≡ m → option_map (λ n. n + 1) m ≡ Some n
+    → (k : ℕ) × (first_empty_line u xs ≡ Some k) × (k + 1 ≡ n)
 one_more u xs n None e h = cc
 one_more u xs n (Some k) e h = (k, e, cc)
 
-pub empty_line_is_found : (s : Spot) (xs : List ℕ) (n : ℕ) → empty_line s xs ≡ Some n → IsFound s xs n
+pub empty_line_is_found : (s : Spot) (xs : List ℕ) (n : ℕ) → first_empty_line s xs ≡ Some n → IsFound s xs n
 empty_line_is_found s [] n h = cc
 empty_line_is_found s (x ∷ xs) n h =
     let r = at (next_spot s x) (λ u k g. empty_line_is_found u xs k g) h in
     record { some = r.0; within = r.1; stays = r.2 }
   where
-    at : (o : Option Spot) → ((u : Spot) (k : ℕ) → empty_line u xs ≡ Some k → IsFound u xs k) → finds xs o ≡ Some n
+    at : (o : Option Spot) → ((u : Spot) (k : ℕ) → first_empty_line u xs ≡ Some k → IsFound u xs k) → finds xs o ≡ Some n
         → (0 < n) × (n ≤ suc (length xs)) × ((ys : List ℕ) → finds (xs ++ ys) o ≡ Some n)
     at None again h =
         let one : 1 ≡ n = cc in
         (omega arith, omega arith, λ ys. h)
     at (Some u) again h =
-        let k = one_more u xs n (empty_line u xs) refl h in
+        let k = one_more u xs n (first_empty_line u xs) refl h in
         let rest = again u k.0 k.1 in
         let w = rest.within in
         let e = k.2 in

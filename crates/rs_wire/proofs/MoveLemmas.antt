@@ -10,12 +10,12 @@ use Rattle.rs_wire.specs.declared.body.Part.TheVariants.{Length, Line, Data, Tra
 use Rattle.rs_wire.specs.declared.body.BodyReader.{BodyReader}
 use Rattle.rs_wire.specs.declared.search.Search.{Search}
 use Rattle.rs_wire.specs.declared.search.Spot.TheVariants.{Fresh}
-use Rattle.rs_wire.specs.declared.limits.TheConstants.{BODY_LIMIT, CHUNK_LINE_LIMIT, TRAILER_LIMIT}
-use Rattle.rs_wire.specs.Lines.{first_line, empty_line}
+use Rattle.rs_wire.specs.Limits.{max_body, max_chunk_line, max_trailer}
+use Rattle.rs_wire.specs.Lines.{first_line, first_empty_line}
 use Rattle.rs_wire.specs.Sought.{IsSought}
 use Rattle.rs_wire.specs.ChunkTexts.{size_of}
 use Rattle.rs_wire.specs.Bodies.{part_after, unended, ended, spoiled, waits, goes, ends, fails, fault_at, next_part, size_turn, line_turn, trailer_turn, has_line_end, body_from}
-use Rattle.rs_wire.specs.BodyReaders.{IsPartAt, IsLineSought, body_of, Moves}
+use Rattle.rs_wire.specs.BodyReaders.{IsPartAt, IsLineSought, reader_body, Moves}
 use Rattle.rs_wire.proofs.LinesLemmas.{first_line_is_first, length-window}
 use Rattle.rs_wire.proofs.BodyLemmas.{body_goes, body_ends, body_fails, body_waits, length_taken, data_taken}
 
@@ -29,7 +29,7 @@ unfolding body_from
 line_hint s t body at rest = refl
 
 -- what is said of the part is said of the reader
-of_part : (r : BodyReader) (part : Part) (at : ℕ) (rest : List ℕ) → r.part ≡ part → body_of r at rest ≡ body_from part r.body.items at rest
+of_part : (r : BodyReader) (part : Part) (at : ℕ) (rest : List ℕ) → r.part ≡ part → reader_body r at rest ≡ body_from part r.body.items at rest
 of_part r part at rest e = ap (λ p. body_from p r.body.items at rest) e
 
 -- a reader that took nothing
@@ -46,20 +46,20 @@ stays old new part next at rest p q b same fits =
 -- ---- the trailer
 
 pub trailer_ends : (r : BodyReader) (search : Search) (at n : ℕ) (rest : List ℕ) → r.part ≡ Trailer search
-    → empty_line Fresh (take TRAILER_LIMIT rest) ≡ Some n → (n ≤ length rest) × (body_of r at rest ≡ ended r.body.items (at + n))
+    → first_empty_line Fresh (take max_trailer rest) ≡ Some n → (n ≤ length rest) × (reader_body r at rest ≡ ended r.body.items (at + n))
 trailer_ends r search at n rest p found =
     let e = body_ends (Trailer search) r.body.items r.body.items at n rest (ap (trailer_turn r.body.items at rest) found) in
     (e.0, of_part r (Trailer search) at rest p ∙ e.1)
 
 pub trailer_fails : (r : BodyReader) (search : Search) (at : ℕ) (rest : List ℕ) → r.part ≡ Trailer search
-    → empty_line Fresh (take TRAILER_LIMIT rest) ≡ None → TRAILER_LIMIT ≤ length rest → body_of r at rest ≡ spoiled (fault_at BadChunk at)
+    → first_empty_line Fresh (take max_trailer rest) ≡ None → max_trailer ≤ length rest → reader_body r at rest ≡ spoiled (fault_at BadChunk at)
 trailer_fails r search at rest p unfound long =
     of_part r (Trailer search) at rest p ∙ body_fails (Trailer search) r.body.items at rest (fault_at BadChunk at)
     (ap (trailer_turn r.body.items at rest) unfound ∙ cond-false _ waits (fails (fault_at BadChunk at)) (le-ltb _ _ long))
 
 pub trailer_waits : (old new : BodyReader) (search next : Search) (at : ℕ) (rest : List ℕ) → old.part ≡ Trailer search → new.part ≡ Trailer next
-    → new.body.items ≡ old.body.items → empty_line Fresh (take TRAILER_LIMIT rest) ≡ None → length rest < TRAILER_LIMIT
-    → IsSought Fresh next (take TRAILER_LIMIT rest) → Moves old new at 0 rest × (body_of old at rest ≡ unended)
+    → new.body.items ≡ old.body.items → first_empty_line Fresh (take max_trailer rest) ≡ None → length rest < max_trailer
+    → IsSought Fresh next (take max_trailer rest) → Moves old new at 0 rest × (reader_body old at rest ≡ unended)
 trailer_waits old new search next at rest p q b unfound short sought = (
   stays old new (Trailer search) (Trailer next) at rest p q b (λ body xs. trailer_hint search next body at xs) sought,
   of_part old (Trailer search) at rest p ∙ body_waits (Trailer search) old.body.items at rest
@@ -68,23 +68,23 @@ trailer_waits old new search next at rest p q b unfound short sought = (
 
 -- ---- a chunk's line
 
-pub line_within : (n : ℕ) (rest : List ℕ) → first_line (take CHUNK_LINE_LIMIT rest) ≡ Some n → n ≤ length rest
+pub line_within : (n : ℕ) (rest : List ℕ) → first_line (take max_chunk_line rest) ≡ Some n → n ≤ length rest
 line_within n rest found =
-    let first = first_line_is_first (take CHUNK_LINE_LIMIT rest) n found in
+    let first = first_line_is_first (take max_chunk_line rest) n found in
     let w = first.within in
-    omega (arith, length-window CHUNK_LINE_LIMIT rest)
+    omega (arith, length-window max_chunk_line rest)
 
 pub line_sought : (sought : ℕ) (rest : List ℕ) → IsLineSought sought rest
-    → (sought ≤ length (take CHUNK_LINE_LIMIT rest)) × (first_line (take sought (take CHUNK_LINE_LIMIT rest)) ≡ None)
+    → (sought ≤ length (take max_chunk_line rest)) × (first_line (take sought (take max_chunk_line rest)) ≡ None)
 line_sought sought rest fits =
     let low = fits.low in
     let within = fits.within in
-    (omega (arith, length-take CHUNK_LINE_LIMIT rest), ap first_line (take-take sought CHUNK_LINE_LIMIT rest low) ∙ fits.unfound)
+    (omega (arith, length-take max_chunk_line rest), ap first_line (take-take sought max_chunk_line rest low) ∙ fits.unfound)
 
 -- the part after a line has searched nothing yet
 pub next_fits : (so_far : ℕ) (o : Option ℕ) (next : Part) (rest : List ℕ) → next_part so_far o ≡ Ok next → IsPartAt next rest
 next_fits so_far None next rest e = cc
-next_fits so_far (Some size) next rest e = by_limit (nat_lt BODY_LIMIT (so_far + size)) e
+next_fits so_far (Some size) next rest e = by_limit (nat_lt max_body (so_far + size)) e
   where
     by_size : (t : Bool) → IsPartAt (cond t (Trailer (record { sought = 0; spot = Fresh })) (Data size)) rest
     by_size true = record { within = omega arith; spot = refl }
@@ -95,7 +95,7 @@ next_fits so_far (Some size) next rest e = by_limit (nat_lt BODY_LIMIT (so_far +
     by_limit false e = let same : part_after size ≡ next = cc in subst (λ (m : Part). IsPartAt m rest) same (by_size (eqb size 0))
 
 pub line_goes : (old new : BodyReader) (sought at n : ℕ) (next : Part) (rest : List ℕ) → old.part ≡ Line sought → new.part ≡ next
-    → new.body.items ≡ old.body.items → first_line (take CHUNK_LINE_LIMIT rest) ≡ Some n
+    → new.body.items ≡ old.body.items → first_line (take max_chunk_line rest) ≡ Some n
     → next_part (length old.body.items) (size_of (take n rest)) ≡ Ok next → IsPartAt next (drop n rest) → Moves old new at n rest × (0 < n)
 line_goes old new sought at n next rest p q b found size fits =
     let e = ap (line_turn old.body.items at rest) found ∙ ap (size_turn old.body.items at n) size in
@@ -110,23 +110,23 @@ line_goes old new sought at n next rest p q b found size fits =
     )
 
 pub line_fails : (r : BodyReader) (sought at n : ℕ) (why : WireWhy) (rest : List ℕ) → r.part ≡ Line sought
-    → first_line (take CHUNK_LINE_LIMIT rest) ≡ Some n → next_part (length r.body.items) (size_of (take n rest)) ≡ Err why
-    → body_of r at rest ≡ spoiled (fault_at why at)
+    → first_line (take max_chunk_line rest) ≡ Some n → next_part (length r.body.items) (size_of (take n rest)) ≡ Err why
+    → reader_body r at rest ≡ spoiled (fault_at why at)
 line_fails r sought at n why rest p found size =
     of_part r (Line sought) at rest p ∙ body_fails (Line sought) r.body.items at rest (fault_at why at)
     (ap (line_turn r.body.items at rest) found ∙ ap (size_turn r.body.items at n) size)
 
 pub line_long : (r : BodyReader) (sought at : ℕ) (rest : List ℕ) → r.part ≡ Line sought
-    → first_line (take CHUNK_LINE_LIMIT rest) ≡ None → CHUNK_LINE_LIMIT ≤ length rest → body_of r at rest ≡ spoiled (fault_at BadChunk at)
+    → first_line (take max_chunk_line rest) ≡ None → max_chunk_line ≤ length rest → reader_body r at rest ≡ spoiled (fault_at BadChunk at)
 line_long r sought at rest p unfound long =
     of_part r (Line sought) at rest p ∙ body_fails (Line sought) r.body.items at rest (fault_at BadChunk at)
     (ap (line_turn r.body.items at rest) unfound ∙ cond-false _ waits (fails (fault_at BadChunk at)) (le-ltb _ _ long))
 
 pub line_waits : (old new : BodyReader) (sought at : ℕ) (rest : List ℕ) → old.part ≡ Line sought → new.part ≡ Line (length rest)
-    → new.body.items ≡ old.body.items → first_line (take CHUNK_LINE_LIMIT rest) ≡ None → length rest < CHUNK_LINE_LIMIT
-    → Moves old new at 0 rest × (body_of old at rest ≡ unended)
+    → new.body.items ≡ old.body.items → first_line (take max_chunk_line rest) ≡ None → length rest < max_chunk_line
+    → Moves old new at 0 rest × (reader_body old at rest ≡ unended)
 line_waits old new sought at rest p q b unfound short =
-    let whole : take CHUNK_LINE_LIMIT rest ≡ take (length rest) rest = take_all CHUNK_LINE_LIMIT rest (omega arith) ∙ sym (take_all (length rest) rest (omega arith)) in
+    let whole : take max_chunk_line rest ≡ take (length rest) rest = take_all max_chunk_line rest (omega arith) ∙ sym (take_all (length rest) rest (omega arith)) in
     let fits : IsLineSought (length rest) rest = record { low = omega arith; within = omega arith; unfound = ap first_line (sym whole) ∙ unfound } in (
       stays old new (Line sought) (Line (length rest)) at rest p q b (λ body xs. line_hint sought (length rest) body at xs) fits,
       of_part old (Line sought) at rest p ∙ body_waits (Line sought) old.body.items at rest
@@ -152,7 +152,7 @@ taken old new part next at k rest p q b within fits same = record {
 }
 
 pub length_ends : (old new : BodyReader) (at n : ℕ) (rest : List ℕ) → old.part ≡ Length n → new.body.items ≡ old.body.items ++ take n rest
-    → n ≤ length rest → (n ≤ length rest) × (body_of old at rest ≡ ended new.body.items (at + n))
+    → n ≤ length rest → (n ≤ length rest) × (reader_body old at rest ≡ ended new.body.items (at + n))
 length_ends old new at n rest p b enough = (
   enough,
   of_part old (Length n) at rest p
@@ -161,7 +161,7 @@ length_ends old new at n rest p b enough = (
 )
 
 pub length_waits : (old new : BodyReader) (at n k : ℕ) (rest : List ℕ) → old.part ≡ Length n → new.part ≡ Length (n - k)
-    → new.body.items ≡ old.body.items ++ take k rest → k ≡ length rest → length rest < n → Moves old new at k rest × (body_of old at rest ≡ unended)
+    → new.body.items ≡ old.body.items ++ take k rest → k ≡ length rest → length rest < n → Moves old new at k rest × (reader_body old at rest ≡ unended)
 length_waits old new at n k rest p q b all short = (
   taken old new (Length n) (Length (n - k)) at k rest p q b (omega arith) tt (λ xs within. length_taken n k old.body.items at xs (omega arith) within),
   of_part old (Length n) at rest p
@@ -171,14 +171,14 @@ length_waits old new at n k rest p q b all short = (
 -- so many bytes and CR LF aren't there yet
 pub data_waits : (old new : BodyReader) (at n k : ℕ) (rest : List ℕ) → old.part ≡ Data n → new.part ≡ Data (n - k)
     → new.body.items ≡ old.body.items ++ take k rest → k ≤ n → k ≤ length rest → length rest < n + 2
-    → Moves old new at k rest × (body_of old at rest ≡ unended)
+    → Moves old new at k rest × (reader_body old at rest ≡ unended)
 data_waits old new at n k rest p q b low within short = (
   taken old new (Data n) (Data (n - k)) at k rest p q b within tt (λ xs enough. data_taken n k old.body.items at xs low enough),
   of_part old (Data n) at rest p ∙ body_waits (Data n) old.body.items at rest (cond-true _ waits _ (lt-ltb _ _ short)),
 )
 
 pub data_fails : (r : BodyReader) (at n : ℕ) (rest : List ℕ) → r.part ≡ Data n → n + 2 ≤ length rest → has_line_end (drop n rest) ≡ false
-    → body_of r at rest ≡ spoiled (fault_at BadChunk (at + n))
+    → reader_body r at rest ≡ spoiled (fault_at BadChunk (at + n))
 data_fails r at n rest p enough bad =
     of_part r (Data n) at rest p ∙ body_fails (Data n) r.body.items at rest (fault_at BadChunk (at + n))
     (cond-false _ waits _ (le-ltb _ _ enough) ∙ cond-false _ (goes (Line 0) (r.body.items ++ take n rest) (n + 2)) (fails (fault_at BadChunk (at + n))) bad)

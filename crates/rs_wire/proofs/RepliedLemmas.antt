@@ -13,7 +13,7 @@ use Rattle.rs_wire.specs.declared.framing.Framing.{Framing}
 use Rattle.rs_wire.specs.declared.framing.Framing.TheVariants as framed
 use Rattle.rs_wire.specs.declared.message.ReplyMessage.{ReplyMessage}
 use Rattle.rs_wire.specs.declared.search.Spot.TheVariants.{Before}
-use Rattle.rs_wire.specs.Lines.{empty_line}
+use Rattle.rs_wire.specs.Lines.{first_empty_line}
 use Rattle.rs_wire.specs.Framing.{stated}
 use Rattle.rs_wire.specs.Replies.{reply_framing, reply_of}
 use Rattle.rs_wire.specs.ReplySpelling.{SpellsHead, Interims, none, skipped, SpellsReplyBody, SpellsReply}
@@ -105,7 +105,7 @@ head_printed m =
     ∙ sym (print_response-append (head_of m) [])
 
 head_ends : (m : ReplyMessage) → IsKnown m.status → All IsField (map line_for m.fields)
-    → empty_line Before (reply_head_text m) ≡ Some (length (reply_head_text m))
+    → first_empty_line Before (reply_head_text m) ≡ Some (length (reply_head_text m))
 head_ends m k valid =
     let text = head_lines m in
     let none : lacks 10 (codes "TTP/1.1 " ++ (status_digits m.status ++ 32 ∷ phrase_of m.status)) ≡ true =
@@ -113,7 +113,7 @@ head_ends m k valid =
     (lacks_append 10 (status_digits m.status) (32 ∷ phrase_of m.status) (lacks_by is_ascii_digit 10 (status_digits m.status) refl k.all)
     (lacks_append 10 (32 ∷ []) (phrase_of m.status) refl (lacks_by is_value_byte 10 (phrase_of m.status) refl k.phrase))) in
     let first = line_ends Before 72 (codes "TTP/1.1 " ++ (status_digits m.status ++ 32 ∷ phrase_of m.status)) crlf refl none in
-    ap (empty_line Before) text
+    ap (first_empty_line Before) text
     ∙ section_ends (start m ++ print_end crlf) (map line_for m.fields) crlf first valid
     ∙ ap (λ xs. Some (length xs)) (sym text)
 

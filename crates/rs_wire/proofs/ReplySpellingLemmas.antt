@@ -12,12 +12,12 @@ use Rattle.rs_wire.specs.declared.framing.Framing.TheVariants as framed
 use Rattle.rs_wire.specs.declared.message.ReplyMessage.{ReplyMessage}
 use Rattle.rs_wire.specs.declared.reply.Chunk.{Chunk}
 use Rattle.rs_wire.specs.declared.search.Spot.TheVariants.{Before, Fresh}
-use Rattle.rs_wire.specs.declared.limits.TheConstants.{HEAD_LIMIT, CHUNK_LINE_LIMIT, TRAILER_LIMIT}
+use Rattle.rs_wire.specs.Limits.{max_head, max_chunk_line, max_trailer}
 use Rattle.rs_wire.specs.Bodies.{has_line_end}
 use Rattle.rs_wire.specs.ChunkTexts.{size_of}
-use Rattle.rs_wire.specs.Lines.{is_break, past_breaks, first_line, empty_line}
+use Rattle.rs_wire.specs.Lines.{is_break, past_breaks, first_line, first_empty_line}
 use Rattle.rs_wire.specs.ReplyTexts.{response_head}
-use Rattle.rs_wire.specs.Replies.{reply_head, judged_reply, first_byte, reply_head_at, last_head, last_chunk, chunk_at, chunks_from, reply_body, reply_framing, reply_of}
+use Rattle.rs_wire.specs.Replies.{reply_head_of, judged_reply, first_byte, reply_head_at, last_head, last_chunk, chunk_at, chunks_from, reply_body, reply_framing, reply_of}
 use Rattle.rs_wire.specs.Spelling.{IsLine}
 use Rattle.rs_wire.specs.ReplySpelling.{SpellsHead, Interims, none, skipped, ReplyChunks, chunk, last, SpellsReplyBody, SpellsReply}
 use Rattle.rs_wire.specs.Writing.{has_no_body}
@@ -41,47 +41,47 @@ head_clean h blank =
     sym (append-nil (print_response h)) ∙ print_response-append h [] ∙ ap (λ b. print_blank b ++ (print_version h.minor ++ rest)) blank in
     ap past_breaks text ∙ sym text
 
-end_in_window : (start : _) (limit : ℕ) (text after : List ℕ) → empty_line start text ≡ Some (length text) → length text ≤ limit
-    → empty_line start (take limit (text ++ after)) ≡ Some (length text)
+end_in_window : (start : _) (limit : ℕ) (text after : List ℕ) → first_empty_line start text ≡ Some (length text) → length text ≤ limit
+    → first_empty_line start (take limit (text ++ after)) ≡ Some (length text)
 end_in_window start limit text after is short =
     let larger = window_more limit text after in
-    ap (empty_line start) (larger.1 ∙ ap (λ xs. xs ++ larger.0) (take_all limit text short)) ∙ (empty_line_is_found start text (length text) is).stays larger.0
+    ap (first_empty_line start) (larger.1 ∙ ap (λ xs. xs ++ larger.0) (take_all limit text short)) ∙ (empty_line_is_found start text (length text) is).stays larger.0
 
 line_in_window : (limit : ℕ) (line after : List ℕ) → IsLine line → length line ≤ limit → first_line (take limit (line ++ after)) ≡ Some (length line)
 line_in_window limit line after is short =
     let larger = window_more limit line after in
     ap first_line (larger.1 ∙ ap (λ xs. xs ++ larger.0) (take_all limit line short)) ∙ (first_line_is_first line (length line) is).stays larger.0
 
-head_judged : (h : ResponseHead) (text : List ℕ) (at end : ℕ) → SpellsHead h text → judged_reply at end (past_breaks text) ≡ Ok (reply_head at end h)
+head_judged : (h : ResponseHead) (text : List ℕ) (at end : ℕ) → SpellsHead h text → judged_reply at end (past_breaks text) ≡ Ok (reply_head_of at end h)
 unfolding judged_reply
 head_judged h text at end s =
     let clean = head_clean h s.first in
     let alone = ap past_breaks s.whole ∙ breaks_dropped s.breaks (print_response h) s.dropped ∙ clean in
     let found = response_found (print_response h) h clean (s.valid, sym (append-nil (print_response h))) in
-    ap (λ o. option_map_or (λ h. Ok (reply_head at end h)) o (Err at)) (ap response_head alone ∙ found)
+    ap (λ o. option_map_or (λ h. Ok (reply_head_of at end h)) o (Err at)) (ap response_head alone ∙ found)
 
 -- a head that stands after other bytes
 pub head_is_read : (h : ResponseHead) (text before after : List ℕ) → SpellsHead h text
-    → reply_head_at (before ++ (text ++ after)) (length before) ≡ Ok (reply_head (first_byte (before ++ (text ++ after)) (length before)) (length before + length text) h)
+    → reply_head_at (before ++ (text ++ after)) (length before) ≡ Ok (reply_head_of (first_byte (before ++ (text ++ after)) (length before)) (length before + length text) h)
 head_is_read h text before after s =
     let n = length text in
     let at = length before in
     let rest : drop at (before ++ (text ++ after)) ≡ text ++ after = drop_at before (text ++ after) at refl in
-    let found = ap (λ xs. empty_line Before (take HEAD_LIMIT xs)) rest ∙ end_in_window Before HEAD_LIMIT text after s.ends s.short in
+    let found = ap (λ xs. first_empty_line Before (take max_head xs)) rest ∙ end_in_window Before max_head text after s.ends s.short in
     let alone : take n (drop at (before ++ (text ++ after))) ≡ text = ap (take n) rest ∙ take_at text after n refl in
     let place = first_byte (before ++ (text ++ after)) at in
     head_whole (before ++ (text ++ after)) at n found ∙ ap (λ xs. judged_reply place (at + n) (past_breaks xs)) alone ∙ head_judged h text place (at + n) s
 
 -- the head that no other follows, after interim ones
 last_is_read : (before interims text tail : List ℕ) (h : ResponseHead) → Interims interims → SpellsHead h text → (status_code h / 100 ≡ 1 → ⊥)
-    → (place : ℕ) × (last_head (before ++ (interims ++ (text ++ tail))) (length before) ≡ Ok (reply_head place (length before + length interims + length text) h))
+    → (place : ℕ) × (last_head (before ++ (interims ++ (text ++ tail))) (length before) ≡ Ok (reply_head_of place (length before + length interims + length text) h))
 last_is_read before [] text tail h none s final =
     let at = length before in
     let place = first_byte (before ++ (text ++ tail)) at in
     let end : at + length text ≡ at + 0 + length text = omega arith in (
       place,
-      last_found (before ++ (text ++ tail)) at (reply_head place (at + length text) h) (head_is_read h text before tail s) final
-          ∙ ap (λ n. Ok (reply_head place n h)) end,
+      last_found (before ++ (text ++ tail)) at (reply_head_of place (at + length text) h) (head_is_read h text before tail s) final
+          ∙ ap (λ n. Ok (reply_head_of place n h)) end,
     )
 last_is_read before interims text tail h (skipped g first rest spells interim later whole) s final =
     let at = length before in
@@ -95,14 +95,14 @@ last_is_read before interims text tail h (skipped g first rest spells interim la
     let end : length (before ++ first) + length rest + length text ≡ at + length interims + length text = omega (arith, front, ap length whole, length-append first rest) in (
       again.0,
       ap (λ xs. last_head xs at) all
-          ∙ last_next bytes at (reply_head (first_byte bytes at) (at + length first) g) inside (head_is_read g first before after spells) interim
+          ∙ last_next bytes at (reply_head_of (first_byte bytes at) (at + length first) g) inside (head_is_read g first before after spells) interim
           ∙ (λ i. last_head (sym same i) (sym front i)) ∙ again.1
-          ∙ ap (λ n. Ok (reply_head again.0 n h)) end,
+          ∙ ap (λ n. Ok (reply_head_of again.0 n h)) end,
     )
 
 -- ---- chunks
 
-chunk_is_read : (before line content rest : List ℕ) → IsLine line → length line ≤ CHUNK_LINE_LIMIT → size_of line ≡ Some (length content) → 0 < length content
+chunk_is_read : (before line content rest : List ℕ) → IsLine line → length line ≤ max_chunk_line → size_of line ≡ Some (length content) → 0 < length content
     → chunk_at (before ++ (line ++ (content ++ (13 ∷ 10 ∷ rest)))) (length before)
     ≡ Ok (record { line = length before + length line; size = length content; end = length before + length line + length content + 2 })
 chunk_is_read before line content rest is short sized some =
@@ -112,7 +112,7 @@ chunk_is_read before line content rest is short sized some =
     let n = length line in
     let size = length content in
     let here : drop at bytes ≡ line ++ after = drop_at before (line ++ after) at refl in
-    let found = ap (λ xs. first_line (take CHUNK_LINE_LIMIT xs)) here ∙ line_in_window CHUNK_LINE_LIMIT line after is short in
+    let found = ap (λ xs. first_line (take max_chunk_line xs)) here ∙ line_in_window max_chunk_line line after is short in
     let alone : take n (drop at bytes) ≡ line = ap (take n) here ∙ take_at line after n refl in
     let past : drop (at + n) bytes ≡ after = sym (drop-drop n at bytes) ∙ ap (drop n) here ∙ drop_at line after n refl in
     let end : drop (at + n + size) bytes ≡ 13 ∷ 10 ∷ rest = sym (drop-drop size (at + n) bytes) ∙ ap (drop size) past ∙ drop_at content (13 ∷ 10 ∷ rest) size refl in
@@ -122,8 +122,8 @@ chunk_is_read before line content rest is short sized some =
     ∙ data_ending bytes at (at + n) size true (omega (arith, enough, length-append line after, length-append content (13 ∷ 10 ∷ rest)))
     (omega (arith, enough, length-append line after, length-append content (13 ∷ 10 ∷ rest))) good
 
-last_chunk_is_read : (before line trailer : List ℕ) → IsLine line → length line ≤ CHUNK_LINE_LIMIT → size_of line ≡ Some 0
-    → empty_line Fresh trailer ≡ Some (length trailer) → length trailer ≤ TRAILER_LIMIT
+last_chunk_is_read : (before line trailer : List ℕ) → IsLine line → length line ≤ max_chunk_line → size_of line ≡ Some 0
+    → first_empty_line Fresh trailer ≡ Some (length trailer) → length trailer ≤ max_trailer
     → chunk_at (before ++ (line ++ trailer)) (length before)
     ≡ Ok (record { line = length before + length line; size = 0; end = length before + length line + length trailer })
 last_chunk_is_read before line trailer is short sized ends brief =
@@ -131,10 +131,10 @@ last_chunk_is_read before line trailer is short sized ends brief =
     let at = length before in
     let n = length line in
     let here : drop at bytes ≡ line ++ trailer = drop_at before (line ++ trailer) at refl in
-    let found = ap (λ xs. first_line (take CHUNK_LINE_LIMIT xs)) here ∙ line_in_window CHUNK_LINE_LIMIT line trailer is short in
+    let found = ap (λ xs. first_line (take max_chunk_line xs)) here ∙ line_in_window max_chunk_line line trailer is short in
     let alone : take n (drop at bytes) ≡ line = ap (take n) here ∙ take_at line trailer n refl in
     let past : drop (at + n) bytes ≡ trailer = sym (drop-drop n at bytes) ∙ ap (drop n) here ∙ drop_at line trailer n refl in
-    let window = ap (λ xs. empty_line Fresh (take TRAILER_LIMIT xs)) past ∙ ap (empty_line Fresh) (take_all TRAILER_LIMIT trailer brief) ∙ ends in
+    let window = ap (λ xs. first_empty_line Fresh (take max_trailer xs)) past ∙ ap (first_empty_line Fresh) (take_all max_trailer trailer brief) ∙ ends in
     chunk_of_none bytes at n 0 found (ap size_of alone ∙ sized) refl
     ∙ ap (last_chunk (at + n)) (trailer_whole bytes (at + n) (length trailer) window)
 
@@ -198,8 +198,8 @@ spelled_reply_is_read bodiless m bytes s =
     let all : bytes ≡ (s.interims ++ s.text) ++ s.tail = s.whole ∙ sym (append_assoc s.interims s.text s.tail) in
     let place : end ≡ length (s.interims ++ s.text) = sym (length-append s.interims s.text) in
     let far : 0 + length s.interims + length s.text ≡ end = omega arith in
-    let head = ap (λ xs. last_head xs 0) s.whole ∙ found.1 ∙ ap (λ n. Ok (reply_head found.0 n h)) far in
+    let head = ap (λ xs. last_head xs 0) s.whole ∙ found.1 ∙ ap (λ n. Ok (reply_head_of found.0 n h)) far in
     let framing = reply_framing (has_no_body bodiless (status_code h)) s.framing in
     let body = (λ i. reply_body (all i) (place i) framing) ∙ body_is_read framing m.body s.tail (s.interims ++ s.text) s.body
     ∙ (λ i. Ok (m.body, length (sym all i))) in
-    reply_whole bodiless bytes (reply_head found.0 end h) s.framing m.body (length bytes) head s.states body (omega arith) ∙ ap Ok (sym s.same)
+    reply_whole bodiless bytes (reply_head_of found.0 end h) s.framing m.body (length bytes) head s.states body (omega arith) ∙ ap Ok (sym s.same)

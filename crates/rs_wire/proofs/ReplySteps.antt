@@ -11,7 +11,7 @@ use Rattle.httparse.specs.Spans.{header_bytes}
 use Rattle.rs_wire.specs.declared.field.Field.{Field}
 use Rattle.rs_wire.specs.declared.fault.WireWhy.{WireWhy}
 use Rattle.rs_wire.specs.declared.framing.Framing.{Framing}
-use Rattle.rs_wire.specs.declared.limits.TheConstants.{HEAD_LIMIT, CHUNK_LINE_LIMIT, TRAILER_LIMIT}
+use Rattle.rs_wire.specs.Limits.{max_head, max_chunk_line, max_trailer}
 use Rattle.rs_wire.specs.declared.reply.Chunk.{Chunk}
 use Rattle.rs_wire.specs.declared.reply.ReplyHead.{ReplyHead}
 use Rattle.rs_wire.specs.declared.search.Search.{Search}
@@ -20,11 +20,11 @@ use Rattle.rs_wire.specs.declared.search.Spot.TheVariants.{Before, Fresh}
 use Rattle.rs_wire.specs.Bodies.{has_line_end}
 use Rattle.rs_wire.specs.ChunkTexts.{size_of}
 use Rattle.rs_wire.specs.Framing.{stated}
-use Rattle.rs_wire.specs.Lines.{empty_line, first_line, past_breaks, spot_after}
+use Rattle.rs_wire.specs.Lines.{first_empty_line, first_line, past_breaks, spot_after}
 use Rattle.rs_wire.specs.ReplyTexts.{response_head}
 use Rattle.rs_wire.specs.RequestHeads.{fields_of, pair_fields}
-use Rattle.rs_wire.specs.Replies.{IsResponseIn, reply_head, judged_reply, first_byte, reply_ending, reply_head_at, head_step, last_head, IsHeadIn, trailer_ending, trailer_end, last_chunk, data_chunk, sized_chunk, chunk_ending, chunk_at, IsChunkIn, chunk_step, chunks_from, reply_body, reply_framing, ended_reply, framed_reply, headed_reply, reply_of}
-use Rattle.rs_wire.specs.Runs.{Turned, done, on}
+use Rattle.rs_wire.specs.Replies.{IsResponseIn, reply_head_of, judged_reply, first_byte, reply_ending, reply_head_at, head_step, last_head, IsHeadIn, trailer_ending, trailer_end, last_chunk, data_chunk, sized_chunk, chunk_ending, chunk_at, IsChunkIn, chunk_step, chunks_from, reply_body, reply_framing, ended_reply, framed_reply, headed_reply, reply_of}
+use Rattle.std.proofs.Common.{ControlFlow, Continue, Break}
 use Rattle.rs_wire.specs.Sought.{IsSought}
 use Rattle.rs_wire.specs.Writing.{has_no_body}
 use Rattle.rs_wire.proofs.HeadLemmas.{pair_fields_of}
@@ -41,8 +41,8 @@ fresh start s bytes e = record {
 
 -- a search from the start answers the first empty line
 pub sought_front : (start : Spot) (window bytes : List ℕ) (s : Search) (r : Option ℕ) → window ≡ bytes → s ≡ record { sought = 0; spot = start }
-    → ((start : Spot) → IsSought start s window → r ≡ empty_line start window) → empty_line start bytes ≡ r
-sought_front start window bytes s r e is found = ap (empty_line start) (sym e) ∙ sym (found start (fresh start s window is))
+    → ((start : Spot) → IsSought start s window → r ≡ first_empty_line start window) → first_empty_line start bytes ≡ r
+sought_front start window bytes s r e is found = ap (first_empty_line start) (sym e) ∙ sym (found start (fresh start s window is))
 
 -- the rest of the bytes is all of it
 pub rest_all : (bytes : List ℕ) (at : ℕ) → take (length bytes - at) (drop at bytes) ≡ drop at bytes
@@ -52,7 +52,7 @@ rest_all bytes at = take_all (length bytes - at) (drop at bytes) (omega (arith, 
 
 pub judged_reply_none : (at end : ℕ) (text : List ℕ) → response_head text ≡ None → judged_reply at end text ≡ Err at
 unfolding judged_reply
-judged_reply_none at end text none = ap (λ o. option_map_or (λ h. Ok (reply_head at end h)) o (Err at)) none
+judged_reply_none at end text none = ap (λ o. option_map_or (λ h. Ok (reply_head_of at end h)) o (Err at)) none
 
 pub judged_reply_parts : (at end : ℕ) (text : List ℕ) (room : List HeaderSpan) (spans : ResponseSpans) (parts : IsResponseIn text room spans) (fields : List Field)
     → fields ≡ pair_fields (map (header_bytes text) (take spans.headers room))
@@ -61,45 +61,45 @@ unfolding judged_reply
 judged_reply_parts at end text room spans parts fields f =
     let code = sym parts.at.code in
     let all : fields_of parts.head.fields ≡ fields = sym (f ∙ ap pair_fields parts.at.fields ∙ pair_fields_of parts.head.fields) in
-    ap (λ o. option_map_or (λ h. Ok (reply_head at end h)) o (Err at)) parts.is
+    ap (λ o. option_map_or (λ h. Ok (reply_head_of at end h)) o (Err at)) parts.is
     ∙ (λ i. Ok (record { status = code i; fields = all i; place = at; end = end }))
 
 judged_in : (bytes : List ℕ) (at place end : ℕ) (text : List ℕ) → at < end → end ≤ length bytes → IsHeadIn bytes at (judged_reply place end text)
 unfolding judged_reply
 judged_in bytes at place end text low high = by_head (response_head text)
   where
-    by_head : (o : Option ResponseHead) → IsHeadIn bytes at (option_map_or (λ h. Ok (reply_head place end h)) o (Err place))
+    by_head : (o : Option ResponseHead) → IsHeadIn bytes at (option_map_or (λ h. Ok (reply_head_of place end h)) o (Err place))
     by_head None = tt
     by_head (Some h) = (low, high)
 
 pub head_in : (bytes : List ℕ) (at : ℕ) → at ≤ length bytes → IsHeadIn bytes at (reply_head_at bytes at)
 unfolding reply_head_at
-head_in bytes at inside = by_line (empty_line Before (take HEAD_LIMIT (drop at bytes))) refl
+head_in bytes at inside = by_line (first_empty_line Before (take max_head (drop at bytes))) refl
   where
     by_test : (t : Bool) → IsHeadIn bytes at (cond t (Err (length bytes)) (Err (first_byte bytes at)))
     by_test true = tt
     by_test false = tt
 
-    by_line : (o : Option ℕ) → empty_line Before (take HEAD_LIMIT (drop at bytes)) ≡ o → IsHeadIn bytes at (reply_ending bytes at o)
-    by_line None e = by_test (nat_lt (length (drop at bytes)) HEAD_LIMIT)
+    by_line : (o : Option ℕ) → first_empty_line Before (take max_head (drop at bytes)) ≡ o → IsHeadIn bytes at (reply_ending bytes at o)
+    by_line None e = by_test (nat_lt (length (drop at bytes)) max_head)
     by_line (Some n) e =
-        let line = empty_line_is_found Before (take HEAD_LIMIT (drop at bytes)) n e in
+        let line = empty_line_is_found Before (take max_head (drop at bytes)) n e in
         let some = line.some in
         let high = line.within in
         judged_in bytes at (first_byte bytes at) (at + n) (past_breaks (take n (drop at bytes))) (omega arith)
-        (omega (arith, length-take HEAD_LIMIT (drop at bytes), length-drop at bytes))
+        (omega (arith, length-take max_head (drop at bytes), length-drop at bytes))
 
-pub head_short : (bytes : List ℕ) (at : ℕ) → empty_line Before (take HEAD_LIMIT (drop at bytes)) ≡ None → length (drop at bytes) < HEAD_LIMIT
+pub head_short : (bytes : List ℕ) (at : ℕ) → first_empty_line Before (take max_head (drop at bytes)) ≡ None → length (drop at bytes) < max_head
     → reply_head_at bytes at ≡ Err (length bytes)
 unfolding reply_head_at
 head_short bytes at none short = ap (reply_ending bytes at) none ∙ cond-true _ _ _ (lt-ltb _ _ short)
 
-pub head_full : (bytes : List ℕ) (at : ℕ) → empty_line Before (take HEAD_LIMIT (drop at bytes)) ≡ None → HEAD_LIMIT ≤ length (drop at bytes)
+pub head_full : (bytes : List ℕ) (at : ℕ) → first_empty_line Before (take max_head (drop at bytes)) ≡ None → max_head ≤ length (drop at bytes)
     → reply_head_at bytes at ≡ Err (first_byte bytes at)
 unfolding reply_head_at
 head_full bytes at none full = ap (reply_ending bytes at) none ∙ cond-false _ _ _ (le-ltb _ _ full)
 
-pub head_whole : (bytes : List ℕ) (at n : ℕ) → empty_line Before (take HEAD_LIMIT (drop at bytes)) ≡ Some n
+pub head_whole : (bytes : List ℕ) (at n : ℕ) → first_empty_line Before (take max_head (drop at bytes)) ≡ Some n
     → reply_head_at bytes at ≡ judged_reply (first_byte bytes at) (at + n) (past_breaks (take n (drop at bytes)))
 unfolding reply_head_at
 head_whole bytes at n found = ap (reply_ending bytes at) found
@@ -109,14 +109,14 @@ head_whole bytes at n found = ap (reply_ending bytes at) found
 abbrev At : List ℕ → ℕ → Type 0
 At bytes at = at ≤ length bytes
 
-head_less : (bytes : List ℕ) (at to : ℕ) → At bytes at → head_step (reply_head_at bytes at) ≡ on to → At bytes to × (length bytes - to < length bytes - at)
+head_less : (bytes : List ℕ) (at to : ℕ) → At bytes at → head_step (reply_head_at bytes at) ≡ Continue to → At bytes to × (length bytes - to < length bytes - at)
 head_less bytes at to inside e = by_head (reply_head_at bytes at) (head_in bytes at inside) e
   where
-    by_test : (h : ReplyHead) (t : Bool) → IsHeadIn bytes at (Ok h) → cond {A = Turned (Result ReplyHead ℕ) ℕ} t (on h.end) (done (Ok h)) ≡ on to → At bytes to × (length bytes - to < length bytes - at)
+    by_test : (h : ReplyHead) (t : Bool) → IsHeadIn bytes at (Ok h) → cond {A = ControlFlow (Result ReplyHead ℕ) ℕ} t (Continue h.end) (Break (Ok h)) ≡ Continue to → At bytes to × (length bytes - to < length bytes - at)
     by_test h true within e = let same : h.end ≡ to = cc in let low = within.0 in let high = within.1 in (omega arith, omega arith)
     by_test h false within e = cc
 
-    by_head : (r : Result ReplyHead ℕ) → IsHeadIn bytes at r → head_step r ≡ on to → At bytes to × (length bytes - to < length bytes - at)
+    by_head : (r : Result ReplyHead ℕ) → IsHeadIn bytes at r → head_step r ≡ Continue to → At bytes to × (length bytes - to < length bytes - at)
     by_head (Ok h) within e = by_test h (eqb (h.status / 100) 1) within e
     by_head (Err place) within e = cc
 
@@ -141,17 +141,17 @@ last_next bytes at h inside e interim =
 
 -- ---- chunks
 
-pub trailer_short : (bytes : List ℕ) (at : ℕ) → empty_line Fresh (take TRAILER_LIMIT (drop at bytes)) ≡ None → length (drop at bytes) < TRAILER_LIMIT
+pub trailer_short : (bytes : List ℕ) (at : ℕ) → first_empty_line Fresh (take max_trailer (drop at bytes)) ≡ None → length (drop at bytes) < max_trailer
     → trailer_end bytes at ≡ Err (length bytes)
 unfolding trailer_end
 trailer_short bytes at none short = ap (trailer_ending bytes at) none ∙ cond-true _ _ _ (lt-ltb _ _ short)
 
-pub trailer_full : (bytes : List ℕ) (at : ℕ) → empty_line Fresh (take TRAILER_LIMIT (drop at bytes)) ≡ None → TRAILER_LIMIT ≤ length (drop at bytes)
+pub trailer_full : (bytes : List ℕ) (at : ℕ) → first_empty_line Fresh (take max_trailer (drop at bytes)) ≡ None → max_trailer ≤ length (drop at bytes)
     → trailer_end bytes at ≡ Err at
 unfolding trailer_end
 trailer_full bytes at none full = ap (trailer_ending bytes at) none ∙ cond-false _ _ _ (le-ltb _ _ full)
 
-pub trailer_whole : (bytes : List ℕ) (at n : ℕ) → empty_line Fresh (take TRAILER_LIMIT (drop at bytes)) ≡ Some n → trailer_end bytes at ≡ Ok (at + n)
+pub trailer_whole : (bytes : List ℕ) (at n : ℕ) → first_empty_line Fresh (take max_trailer (drop at bytes)) ≡ Some n → trailer_end bytes at ≡ Ok (at + n)
 unfolding trailer_end
 trailer_whole bytes at n found = ap (trailer_ending bytes at) found
 
@@ -172,28 +172,28 @@ data_ending bytes at line size t long some e =
     ∙ cond-false _ _ _ (le-ltb (length (drop (line + size) bytes)) 2 (omega (arith, length-drop (line + size) bytes)))
     ∙ ap (λ t. cond t (Ok (record { line = line; size = size; end = line + size + 2 })) (Err at)) e
 
-pub chunk_short : (bytes : List ℕ) (at : ℕ) → first_line (take CHUNK_LINE_LIMIT (drop at bytes)) ≡ None → length (drop at bytes) < CHUNK_LINE_LIMIT
+pub chunk_short : (bytes : List ℕ) (at : ℕ) → first_line (take max_chunk_line (drop at bytes)) ≡ None → length (drop at bytes) < max_chunk_line
     → chunk_at bytes at ≡ Err (length bytes)
 unfolding chunk_at
 chunk_short bytes at none short = ap (chunk_ending bytes at) none ∙ cond-true _ _ _ (lt-ltb _ _ short)
 
-pub chunk_full : (bytes : List ℕ) (at : ℕ) → first_line (take CHUNK_LINE_LIMIT (drop at bytes)) ≡ None → CHUNK_LINE_LIMIT ≤ length (drop at bytes)
+pub chunk_full : (bytes : List ℕ) (at : ℕ) → first_line (take max_chunk_line (drop at bytes)) ≡ None → max_chunk_line ≤ length (drop at bytes)
     → chunk_at bytes at ≡ Err at
 unfolding chunk_at
 chunk_full bytes at none full = ap (chunk_ending bytes at) none ∙ cond-false _ _ _ (le-ltb _ _ full)
 
-pub chunk_unsized : (bytes : List ℕ) (at n : ℕ) → first_line (take CHUNK_LINE_LIMIT (drop at bytes)) ≡ Some n → size_of (take n (drop at bytes)) ≡ None
+pub chunk_unsized : (bytes : List ℕ) (at n : ℕ) → first_line (take max_chunk_line (drop at bytes)) ≡ Some n → size_of (take n (drop at bytes)) ≡ None
     → chunk_at bytes at ≡ Err at
 unfolding chunk_at
 chunk_unsized bytes at n found none = ap (chunk_ending bytes at) found ∙ ap (sized_chunk bytes at (at + n)) none
 
-pub chunk_of_data : (bytes : List ℕ) (at n size : ℕ) → first_line (take CHUNK_LINE_LIMIT (drop at bytes)) ≡ Some n → size_of (take n (drop at bytes)) ≡ Some size
+pub chunk_of_data : (bytes : List ℕ) (at n size : ℕ) → first_line (take max_chunk_line (drop at bytes)) ≡ Some n → size_of (take n (drop at bytes)) ≡ Some size
     → (size ≡ 0 → ⊥) → chunk_at bytes at ≡ data_chunk bytes at (at + n) size
 unfolding chunk_at
 chunk_of_data bytes at n size found is some =
     ap (chunk_ending bytes at) found ∙ ap (sized_chunk bytes at (at + n)) is ∙ cond-false _ _ _ (ne_eqb size 0 some)
 
-pub chunk_of_none : (bytes : List ℕ) (at n size : ℕ) → first_line (take CHUNK_LINE_LIMIT (drop at bytes)) ≡ Some n → size_of (take n (drop at bytes)) ≡ Some size
+pub chunk_of_none : (bytes : List ℕ) (at n size : ℕ) → first_line (take max_chunk_line (drop at bytes)) ≡ Some n → size_of (take n (drop at bytes)) ≡ Some size
     → size ≡ 0 → chunk_at bytes at ≡ last_chunk (at + n) (trailer_end bytes (at + n))
 unfolding chunk_at
 chunk_of_none bytes at n size found is none =
@@ -218,21 +218,21 @@ data_in bytes at line size low high = by_data (nat_lt (length (drop line bytes))
 
 last_in : (bytes : List ℕ) (at line : ℕ) → at < line → line ≤ length bytes → IsChunkIn bytes at (last_chunk line (trailer_end bytes line))
 unfolding trailer_end
-last_in bytes at line low high = by_line (empty_line Fresh (take TRAILER_LIMIT (drop line bytes))) refl
+last_in bytes at line low high = by_line (first_empty_line Fresh (take max_trailer (drop line bytes))) refl
   where
     by_test : (t : Bool) → IsChunkIn bytes at (last_chunk line (cond t (Err (length bytes)) (Err line)))
     by_test true = tt
     by_test false = tt
 
-    by_line : (o : Option ℕ) → empty_line Fresh (take TRAILER_LIMIT (drop line bytes)) ≡ o → IsChunkIn bytes at (last_chunk line (trailer_ending bytes line o))
-    by_line None e = by_test (nat_lt (length (drop line bytes)) TRAILER_LIMIT)
+    by_line : (o : Option ℕ) → first_empty_line Fresh (take max_trailer (drop line bytes)) ≡ o → IsChunkIn bytes at (last_chunk line (trailer_ending bytes line o))
+    by_line None e = by_test (nat_lt (length (drop line bytes)) max_trailer)
     by_line (Some n) e =
-        let within = (empty_line_is_found Fresh (take TRAILER_LIMIT (drop line bytes)) n e).within in
-        (low, omega arith, omega (arith, length-take TRAILER_LIMIT (drop line bytes), length-drop line bytes))
+        let within = (empty_line_is_found Fresh (take max_trailer (drop line bytes)) n e).within in
+        (low, omega arith, omega (arith, length-take max_trailer (drop line bytes), length-drop line bytes))
 
 pub chunk_in : (bytes : List ℕ) (at : ℕ) → at ≤ length bytes → IsChunkIn bytes at (chunk_at bytes at)
 unfolding chunk_at
-chunk_in bytes at inside = by_line (first_line (take CHUNK_LINE_LIMIT (drop at bytes))) refl
+chunk_in bytes at inside = by_line (first_line (take max_chunk_line (drop at bytes))) refl
   where
     by_test : (t : Bool) → IsChunkIn bytes at (cond t (Err (length bytes)) (Err at))
     by_test true = tt
@@ -247,22 +247,22 @@ chunk_in bytes at inside = by_line (first_line (take CHUNK_LINE_LIMIT (drop at b
     by_size line None low high = tt
     by_size line (Some size) low high = by_zero line size (eqb size 0) low high
 
-    by_line : (o : Option ℕ) → first_line (take CHUNK_LINE_LIMIT (drop at bytes)) ≡ o → IsChunkIn bytes at (chunk_ending bytes at o)
-    by_line None e = by_test (nat_lt (length (drop at bytes)) CHUNK_LINE_LIMIT)
+    by_line : (o : Option ℕ) → first_line (take max_chunk_line (drop at bytes)) ≡ o → IsChunkIn bytes at (chunk_ending bytes at o)
+    by_line None e = by_test (nat_lt (length (drop at bytes)) max_chunk_line)
     by_line (Some n) e =
-        let line = first_line_is_first (take CHUNK_LINE_LIMIT (drop at bytes)) n e in
+        let line = first_line_is_first (take max_chunk_line (drop at bytes)) n e in
         let some = line.some in
         let high = line.within in
-        by_size (at + n) (size_of (take n (drop at bytes))) (omega arith) (omega (arith, length-take CHUNK_LINE_LIMIT (drop at bytes), length-drop at bytes))
+        by_size (at + n) (size_of (take n (drop at bytes))) (omega arith) (omega (arith, length-take max_chunk_line (drop at bytes), length-drop at bytes))
 
 abbrev Now : List ℕ → List ℕ × ℕ → Type 0
 Now bytes s = s.1 ≤ length bytes
 
-chunk_less : (bytes : List ℕ) (s to : List ℕ × ℕ) → Now bytes s → chunk_step bytes s.0 (chunk_at bytes s.1) ≡ on to → Now bytes to × (length bytes - to.1 < length bytes - s.1)
+chunk_less : (bytes : List ℕ) (s to : List ℕ × ℕ) → Now bytes s → chunk_step bytes s.0 (chunk_at bytes s.1) ≡ Continue to → Now bytes to × (length bytes - to.1 < length bytes - s.1)
 chunk_less bytes s to inside e = by_chunk (chunk_at bytes s.1) (chunk_in bytes s.1 inside) e
   where
     by_test : (c : Chunk) (t : Bool) → IsChunkIn bytes s.1 (Ok c)
-        → cond {A = Turned (Result (List ℕ × ℕ) ℕ) (List ℕ × ℕ)} t (done (Ok (s.0, c.end))) (on (s.0 ++ take c.size (drop c.line bytes), c.end)) ≡ on to → Now bytes to × (length bytes - to.1 < length bytes - s.1)
+        → cond {A = ControlFlow (Result (List ℕ × ℕ) ℕ) (List ℕ × ℕ)} t (Break (Ok (s.0, c.end))) (Continue (s.0 ++ take c.size (drop c.line bytes), c.end)) ≡ Continue to → Now bytes to × (length bytes - to.1 < length bytes - s.1)
     by_test c true within e = cc
     by_test c false within e =
         let next : List ℕ × ℕ = (s.0 ++ take c.size (drop c.line bytes), c.end) in
@@ -273,11 +273,11 @@ chunk_less bytes s to inside e = by_chunk (chunk_at bytes s.1) (chunk_in bytes s
         let high = within.2 in
         (omega (arith, same), omega (arith, same))
 
-    by_chunk : (r : Result Chunk ℕ) → IsChunkIn bytes s.1 r → chunk_step bytes s.0 r ≡ on to → Now bytes to × (length bytes - to.1 < length bytes - s.1)
+    by_chunk : (r : Result Chunk ℕ) → IsChunkIn bytes s.1 r → chunk_step bytes s.0 r ≡ Continue to → Now bytes to × (length bytes - to.1 < length bytes - s.1)
     by_chunk (Ok c) within e = by_test c (eqb c.size 0) within e
     by_chunk (Err place) within e = cc
 
-abbrev StepOf : List ℕ → List ℕ × ℕ → Turned (Result (List ℕ × ℕ) ℕ) (List ℕ × ℕ)
+abbrev StepOf : List ℕ → List ℕ × ℕ → ControlFlow (Result (List ℕ × ℕ) ℕ) (List ℕ × ℕ)
 StepOf bytes s = chunk_step bytes s.0 (chunk_at bytes s.1)
 
 pub chunks_fault : (bytes body : List ℕ) (at place : ℕ) → chunk_at bytes at ≡ Err place → chunks_from bytes body at ≡ Err place

@@ -14,15 +14,16 @@ use Rattle.rs_wire.specs.declared.message.ReplyMessage.{ReplyMessage}
 use Rattle.rs_wire.specs.declared.reply.Chunk.{Chunk}
 use Rattle.rs_wire.specs.declared.reply.ReplyHead.{ReplyHead}
 use Rattle.rs_wire.specs.declared.search.Spot.TheVariants.{Before, Fresh}
-use Rattle.rs_wire.specs.declared.limits.TheConstants.{HEAD_LIMIT, CHUNK_LINE_LIMIT, TRAILER_LIMIT}
+use Rattle.rs_wire.specs.Limits.{max_head, max_chunk_line, max_trailer}
 use Rattle.rs_wire.specs.Bodies.{has_line_end}
 use Rattle.rs_wire.specs.ChunkTexts.{size_of}
-use Rattle.rs_wire.specs.Lines.{past_breaks, first_line, empty_line}
+use Rattle.rs_wire.specs.Lines.{past_breaks, first_line, first_empty_line}
 use Rattle.rs_wire.specs.Framing.{stated}
 use Rattle.rs_wire.specs.ReplyTexts.{response_head}
 use Rattle.rs_wire.specs.RequestHeads.{fields_of}
-use Rattle.rs_wire.specs.Replies.{reply_head, judged_reply, first_byte, reply_ending, reply_head_at, head_step, last_head, trailer_ending, trailer_end, last_chunk, data_chunk, sized_chunk, chunk_ending, chunk_at, chunk_step, chunks_from, reply_body, reply_framing, ended_reply, framed_reply, headed_reply, reply_of}
-use Rattle.rs_wire.specs.Runs.{Turned, done, on, after_turned, run}
+use Rattle.rs_wire.specs.Replies.{reply_head_of, judged_reply, first_byte, reply_ending, reply_head_at, head_step, last_head, trailer_ending, trailer_end, last_chunk, data_chunk, sized_chunk, chunk_ending, chunk_at, chunk_step, chunks_from, reply_body, reply_framing, ended_reply, framed_reply, headed_reply, reply_of}
+use Rattle.std.proofs.Common.{ControlFlow, Continue, Break}
+use Rattle.rs_wire.specs.Runs.{after_flow, run}
 use Rattle.rs_wire.specs.Spelling.{IsLine}
 use Rattle.rs_wire.specs.ReplySpelling.{SpellsHead, Interims, none, skipped, ReplyChunks, chunk, last, SpellsReplyBody, SpellsReply}
 use Rattle.rs_wire.specs.Writing.{has_no_body}
@@ -41,30 +42,30 @@ record IsHeadTaken (bytes : List ℕ) (at : ℕ) (r : ReplyHead) : Type 0 where
   rest : List ℕ
   spells : SpellsHead head text
   whole : drop at bytes ≡ text ++ rest
-  is : r ≡ reply_head (first_byte bytes at) (at + length text) head
+  is : r ≡ reply_head_of (first_byte bytes at) (at + length text) head
 
 judged_is : (at end : ℕ) (text : List ℕ) (r : ReplyHead) → judged_reply at end text ≡ Ok r
-    → (h : ResponseHead) × (response_head text ≡ Some h) × (r ≡ reply_head at end h)
+    → (h : ResponseHead) × (response_head text ≡ Some h) × (r ≡ reply_head_of at end h)
 unfolding judged_reply
 judged_is at end text r e = by_head (response_head text) refl e
   where
-    by_head : (o : Option ResponseHead) → response_head text ≡ o → option_map_or (λ h. Ok (reply_head at end h)) o (Err at) ≡ Ok r
-        → (h : ResponseHead) × (response_head text ≡ Some h) × (r ≡ reply_head at end h)
+    by_head : (o : Option ResponseHead) → response_head text ≡ o → option_map_or (λ h. Ok (reply_head_of at end h)) o (Err at) ≡ Ok r
+        → (h : ResponseHead) × (response_head text ≡ Some h) × (r ≡ reply_head_of at end h)
     by_head None f e = cc
-    by_head (Some h) f e = let same : reply_head at end h ≡ r = cc in (h, f, sym same)
+    by_head (Some h) f e = let same : reply_head_of at end h ≡ r = cc in (h, f, sym same)
 
 head_is_taken : (bytes : List ℕ) (at : ℕ) (r : ReplyHead) → reply_head_at bytes at ≡ Ok r → IsHeadTaken bytes at r
 unfolding reply_head_at
-head_is_taken bytes at r e = by_line (empty_line Before (take HEAD_LIMIT (drop at bytes))) refl e
+head_is_taken bytes at r e = by_line (first_empty_line Before (take max_head (drop at bytes))) refl e
   where
     by_test : (t : Bool) (a b : ℕ) → cond {A = Result ReplyHead ℕ} t (Err a) (Err b) ≡ Ok r → ⊥
     by_test true a b e = cc
     by_test false a b e = cc
 
-    by_line : (o : Option ℕ) → empty_line Before (take HEAD_LIMIT (drop at bytes)) ≡ o → reply_ending bytes at o ≡ Ok r → IsHeadTaken bytes at r
-    by_line None found e = absurd (by_test (nat_lt (length (drop at bytes)) HEAD_LIMIT) (length bytes) (first_byte bytes at) e)
+    by_line : (o : Option ℕ) → first_empty_line Before (take max_head (drop at bytes)) ≡ o → reply_ending bytes at o ≡ Ok r → IsHeadTaken bytes at r
+    by_line None found e = absurd (by_test (nat_lt (length (drop at bytes)) max_head) (length bytes) (first_byte bytes at) e)
     by_line (Some n) found e =
-        let window = end_of_window Before HEAD_LIMIT n (drop at bytes) found in
+        let window = end_of_window Before max_head n (drop at bytes) found in
         let low = window.0.low in
         let count = window.0.count in
         let T = take n (drop at bytes) in
@@ -85,7 +86,7 @@ head_is_taken bytes at r e = by_line (empty_line Before (take HEAD_LIMIT (drop a
             short = omega (arith, count, low);
           };
           whole = sym (take-append-drop n (drop at bytes));
-          is = is.2 ∙ ap (λ k. reply_head (first_byte bytes at) (at + k) h) (sym count);
+          is = is.2 ∙ ap (λ k. reply_head_of (first_byte bytes at) (at + k) h) (sym count);
         }
 
 -- the head that no other follows is spelled, after interim ones
@@ -99,9 +100,9 @@ record IsLastTaken (bytes : List ℕ) (at : ℕ) (r : ReplyHead) : Type 0 where
   spells : SpellsHead head text
   final : status_code head / 100 ≡ 1 → ⊥
   whole : drop at bytes ≡ interims ++ (text ++ rest)
-  is : r ≡ reply_head place (at + length interims + length text) head
+  is : r ≡ reply_head_of place (at + length interims + length text) head
 
-abbrev head_turn : List ℕ → ℕ → Turned (Result ReplyHead ℕ) ℕ
+abbrev head_turn : List ℕ → ℕ → ControlFlow (Result ReplyHead ℕ) ℕ
 head_turn bytes at = head_step (reply_head_at bytes at)
 
 -- an interim head before others
@@ -125,7 +126,7 @@ interim_taken bytes at h r found interim later =
       spells = later.spells;
       final = later.final;
       whole = x.whole ∙ ap (λ xs. x.text ++ xs) rest ∙ sym (append_assoc x.text later.interims (later.text ++ later.rest));
-      is = later.is ∙ ap (λ k. reply_head later.place k later.head) place;
+      is = later.is ∙ ap (λ k. reply_head_of later.place k later.head) place;
     }
 
 final_taken : (bytes : List ℕ) (at : ℕ) (h : ReplyHead) → reply_head_at bytes at ≡ Ok h → (h.status / 100 ≡ 1 → ⊥) → IsLastTaken bytes at h
@@ -142,7 +143,7 @@ final_taken bytes at h found final =
       spells = x.spells;
       final = λ e. final (ap (λ s. s / 100) (sym status) ∙ e);
       whole = x.whole;
-      is = x.is ∙ ap (λ k. reply_head (first_byte bytes at) k x.head) place;
+      is = x.is ∙ ap (λ k. reply_head_of (first_byte bytes at) k x.head) place;
     }
 
 last_is_taken : (fuel : ℕ) (bytes : List ℕ) (k at : ℕ) (r : ReplyHead) → run (head_turn bytes) (Err k) fuel at ≡ Ok r → IsLastTaken bytes at r
@@ -150,14 +151,14 @@ last_is_taken zero bytes k at r e = cc
 last_is_taken (suc fuel) bytes k at r e = by_head (reply_head_at bytes at) refl e (λ to f. last_is_taken fuel bytes k to r f)
   where
     by_test : (h : ReplyHead) → reply_head_at bytes at ≡ Ok h → (t : Bool) → eqb (h.status / 100) 1 ≡ t
-        → after_turned (run (head_turn bytes) (Err k) fuel) (cond {A = Turned (Result ReplyHead ℕ) ℕ} t (on h.end) (done (Ok h))) ≡ Ok r
+        → after_flow (run (head_turn bytes) (Err k) fuel) (cond {A = ControlFlow (Result ReplyHead ℕ) ℕ} t (Continue h.end) (Break (Ok h))) ≡ Ok r
         → ((to : ℕ) → run (head_turn bytes) (Err k) fuel to ≡ Ok r → IsLastTaken bytes to r) → IsLastTaken bytes at r
     by_test h found true t e again = interim_taken bytes at h r found (eqb-true _ _ t) (again h.end e)
     by_test h found false t e again =
         let same : h ≡ r = cc in
         subst (λ (h : ReplyHead). IsLastTaken bytes at h) same (final_taken bytes at h found (eqb-false (h.status / 100) 1 t))
 
-    by_head : (o : Result ReplyHead ℕ) → reply_head_at bytes at ≡ o → after_turned (run (head_turn bytes) (Err k) fuel) (head_step o) ≡ Ok r
+    by_head : (o : Result ReplyHead ℕ) → reply_head_at bytes at ≡ o → after_flow (run (head_turn bytes) (Err k) fuel) (head_step o) ≡ Ok r
         → ((to : ℕ) → run (head_turn bytes) (Err k) fuel to ≡ Ok r → IsLastTaken bytes to r) → IsLastTaken bytes at r
     by_head (Err place) found e again = cc
     by_head (Ok h) found e again = by_test h found (eqb (h.status / 100) 1) refl e again
@@ -168,22 +169,22 @@ record IsTrailerTaken (bytes : List ℕ) (at end : ℕ) : Type 0 where
   text : List ℕ
   rest : List ℕ
   whole : drop at bytes ≡ text ++ rest
-  ends : empty_line Fresh text ≡ Some (length text)
-  short : length text ≤ TRAILER_LIMIT
+  ends : first_empty_line Fresh text ≡ Some (length text)
+  short : length text ≤ max_trailer
   place : end ≡ at + length text
 
 trailer_is_taken : (bytes : List ℕ) (at end : ℕ) → trailer_end bytes at ≡ Ok end → IsTrailerTaken bytes at end
 unfolding trailer_end
-trailer_is_taken bytes at end e = by_line (empty_line Fresh (take TRAILER_LIMIT (drop at bytes))) refl e
+trailer_is_taken bytes at end e = by_line (first_empty_line Fresh (take max_trailer (drop at bytes))) refl e
   where
     by_test : (t : Bool) (a b : ℕ) → cond {A = Result ℕ ℕ} t (Err a) (Err b) ≡ Ok end → ⊥
     by_test true a b e = cc
     by_test false a b e = cc
 
-    by_line : (o : Option ℕ) → empty_line Fresh (take TRAILER_LIMIT (drop at bytes)) ≡ o → trailer_ending bytes at o ≡ Ok end → IsTrailerTaken bytes at end
-    by_line None found e = absurd (by_test (nat_lt (length (drop at bytes)) TRAILER_LIMIT) (length bytes) at e)
+    by_line : (o : Option ℕ) → first_empty_line Fresh (take max_trailer (drop at bytes)) ≡ o → trailer_ending bytes at o ≡ Ok end → IsTrailerTaken bytes at end
+    by_line None found e = absurd (by_test (nat_lt (length (drop at bytes)) max_trailer) (length bytes) at e)
     by_line (Some n) found e =
-        let window = end_of_window Fresh TRAILER_LIMIT n (drop at bytes) found in
+        let window = end_of_window Fresh max_trailer n (drop at bytes) found in
         let low = window.0.low in
         let count = window.0.count in
         let same : at + n ≡ end = cc in record {
@@ -240,7 +241,7 @@ record IsLineTaken (bytes : List ℕ) (at : ℕ) (c : Chunk) (size : ℕ) : Type
   line : List ℕ
   rest : List ℕ
   is : IsLine line
-  short : length line ≤ CHUNK_LINE_LIMIT
+  short : length line ≤ max_chunk_line
   sized : size_of line ≡ Some size
   whole : drop at bytes ≡ line ++ rest
   after : drop (at + length line) bytes ≡ rest
@@ -248,17 +249,17 @@ record IsLineTaken (bytes : List ℕ) (at : ℕ) (c : Chunk) (size : ℕ) : Type
 
 line_is_taken : (bytes : List ℕ) (at : ℕ) (c : Chunk) → chunk_at bytes at ≡ Ok c → (size : ℕ) × IsLineTaken bytes at c size
 unfolding chunk_at
-line_is_taken bytes at c e = by_line (first_line (take CHUNK_LINE_LIMIT (drop at bytes))) refl e
+line_is_taken bytes at c e = by_line (first_line (take max_chunk_line (drop at bytes))) refl e
   where
     by_test : (t : Bool) (a b : ℕ) → cond {A = Result Chunk ℕ} t (Err a) (Err b) ≡ Ok c → ⊥
     by_test true a b e = cc
     by_test false a b e = cc
 
-    by_size : (n : ℕ) → first_line (take CHUNK_LINE_LIMIT (drop at bytes)) ≡ Some n → (o : Option ℕ) → size_of (take n (drop at bytes)) ≡ o
+    by_size : (n : ℕ) → first_line (take max_chunk_line (drop at bytes)) ≡ Some n → (o : Option ℕ) → size_of (take n (drop at bytes)) ≡ o
         → sized_chunk bytes at (at + n) o ≡ Ok c → (size : ℕ) × IsLineTaken bytes at c size
     by_size n found None sized e = cc
     by_size n found (Some size) sized e =
-        let window = line_of_window CHUNK_LINE_LIMIT n (drop at bytes) found in
+        let window = line_of_window max_chunk_line n (drop at bytes) found in
         let low = window.0.low in
         let count = window.0.count in
         let back = sym count in (
@@ -275,8 +276,8 @@ line_is_taken bytes at c e = by_line (first_line (take CHUNK_LINE_LIMIT (drop at
           },
         )
 
-    by_line : (o : Option ℕ) → first_line (take CHUNK_LINE_LIMIT (drop at bytes)) ≡ o → chunk_ending bytes at o ≡ Ok c → (size : ℕ) × IsLineTaken bytes at c size
-    by_line None found e = absurd (by_test (nat_lt (length (drop at bytes)) CHUNK_LINE_LIMIT) (length bytes) at e)
+    by_line : (o : Option ℕ) → first_line (take max_chunk_line (drop at bytes)) ≡ o → chunk_ending bytes at o ≡ Ok c → (size : ℕ) × IsLineTaken bytes at c size
+    by_line None found e = absurd (by_test (nat_lt (length (drop at bytes)) max_chunk_line) (length bytes) at e)
     by_line (Some n) found e = by_size n found (size_of (take n (drop at bytes))) refl e
 
 -- ---- chunks, one after another
@@ -294,7 +295,7 @@ record IsChunksTaken (bytes so_far : List ℕ) (at : ℕ) (body : List ℕ) (end
 abbrev State : Type 0
 State = List ℕ × ℕ
 
-abbrev chunk_turn : List ℕ → State → Turned (Result State ℕ) State
+abbrev chunk_turn : List ℕ → State → ControlFlow (Result State ℕ) State
 chunk_turn bytes s = chunk_step bytes s.0 (chunk_at bytes s.1)
 
 -- the chunk of size 0
@@ -394,7 +395,7 @@ chunks_are_taken (suc fuel) bytes k so_far at body end e =
     by_chunk (chunk_at bytes at) refl e (λ more to f. chunks_are_taken fuel bytes k more to body end f)
   where
     by_test : (c : Chunk) → chunk_at bytes at ≡ Ok c → (t : Bool) → eqb c.size 0 ≡ t
-        → after_turned (run (chunk_turn bytes) (Err k) fuel) (cond {A = Turned (Result State ℕ) State} t (done (Ok (so_far, c.end))) (on (so_far ++ take c.size (drop c.line bytes), c.end))) ≡ Ok (body, end)
+        → after_flow (run (chunk_turn bytes) (Err k) fuel) (cond {A = ControlFlow (Result State ℕ) State} t (Break (Ok (so_far, c.end))) (Continue (so_far ++ take c.size (drop c.line bytes), c.end))) ≡ Ok (body, end)
         → ((more : List ℕ) (to : ℕ) → run (chunk_turn bytes) (Err k) fuel (more, to) ≡ Ok (body, end) → IsChunksTaken bytes more to body end)
         → IsChunksTaken bytes so_far at body end
     by_test c found true t e again =
@@ -403,7 +404,7 @@ chunks_are_taken (suc fuel) bytes k so_far at body end e =
     by_test c found false t e again =
         next_taken bytes so_far at c body end found (eqb-false c.size 0 t) (again (so_far ++ take c.size (drop c.line bytes)) c.end e)
 
-    by_chunk : (r : Result Chunk ℕ) → chunk_at bytes at ≡ r → after_turned (run (chunk_turn bytes) (Err k) fuel) (chunk_step bytes so_far r) ≡ Ok (body, end)
+    by_chunk : (r : Result Chunk ℕ) → chunk_at bytes at ≡ r → after_flow (run (chunk_turn bytes) (Err k) fuel) (chunk_step bytes so_far r) ≡ Ok (body, end)
         → ((more : List ℕ) (to : ℕ) → run (chunk_turn bytes) (Err k) fuel (more, to) ≡ Ok (body, end) → IsChunksTaken bytes more to body end)
         → IsChunksTaken bytes so_far at body end
     by_chunk (Err place) found e again = cc
@@ -478,12 +479,12 @@ reply_is_spelled bodiless m bytes e = by_head (last_head bytes 0) refl e
 
     by_body : (l : (h : ReplyHead) × IsLastTaken bytes 0 h) (framing : Framing) → stated (fields_of l.1.head.fields) ≡ Ok framing
         → (b : Result State ℕ) → reply_body bytes (0 + length l.1.interims + length l.1.text) (reply_framing (has_no_body bodiless (status_code l.1.head)) framing) ≡ b
-        → ended_reply bytes (reply_head l.1.place (0 + length l.1.interims + length l.1.text) l.1.head) b ≡ Ok m → SpellsReply bodiless m bytes
+        → ended_reply bytes (reply_head_of l.1.place (0 + length l.1.interims + length l.1.text) l.1.head) b ≡ Ok m → SpellsReply bodiless m bytes
     by_body l framing f (Err place) g e = cc
     by_body l framing f (Ok (body, end)) g e = by_test l framing f body end g (nat_lt end (length bytes)) refl e
 
     by_stated : (l : (h : ReplyHead) × IsLastTaken bytes 0 h) → (r : Result Framing WireWhy) → stated (fields_of l.1.head.fields) ≡ r
-        → framed_reply bodiless bytes (reply_head l.1.place (0 + length l.1.interims + length l.1.text) l.1.head) r ≡ Ok m → SpellsReply bodiless m bytes
+        → framed_reply bodiless bytes (reply_head_of l.1.place (0 + length l.1.interims + length l.1.text) l.1.head) r ≡ Ok m → SpellsReply bodiless m bytes
     by_stated l (Err why) f e = cc
     by_stated l (Ok framing) f e = by_body l framing f _ refl e
 

@@ -14,8 +14,8 @@ use Rattle.rs_wire.specs.declared.body.Part.TheVariants.{Length, Line, Data, Tra
 use Rattle.rs_wire.specs.declared.search.Spot.{Spot}
 use Rattle.rs_wire.specs.declared.search.Search.{Search}
 use Rattle.rs_wire.specs.declared.search.Spot.TheVariants.{Fresh}
-use Rattle.rs_wire.specs.declared.limits.TheConstants.{BODY_LIMIT, CHUNK_LINE_LIMIT, TRAILER_LIMIT}
-use Rattle.rs_wire.specs.Lines.{next_spot, first_line, empty_line}
+use Rattle.rs_wire.specs.Limits.{max_body, max_chunk_line, max_trailer}
+use Rattle.rs_wire.specs.Lines.{next_spot, first_line, first_empty_line}
 use Rattle.rs_wire.specs.ChunkTexts.{size_of}
 use Rattle.rs_wire.specs.Bodies.{ended, Turn, waits, goes, ends, fails, fault_at, part_after, next_part, size_turn, line_turn, trailer_turn, has_line_end, turn, first_part, body_from}
 use Rattle.rs_wire.specs.Spelling.{IsLine, Chunks, chunk, last, SpellsBody}
@@ -46,27 +46,27 @@ first_line_alone (x ∷ xs) n e =
     at false again e = by_rest again (first_line xs) refl e
 
 abbrev finds : List ℕ → Option Spot → Option ℕ
-finds xs o = option_map_or (λ next. option_map (λ n. n + 1) (empty_line next xs)) o (Some 1)
+finds xs o = option_map_or (λ next. option_map (λ n. n + 1) (first_empty_line next xs)) o (Some 1)
 
 -- the text up to the first empty line alone
-pub empty_line_alone : (s : Spot) (xs : List ℕ) (n : ℕ) → empty_line s xs ≡ Some n → empty_line s (take n xs) ≡ Some n
+pub empty_line_alone : (s : Spot) (xs : List ℕ) (n : ℕ) → first_empty_line s xs ≡ Some n → first_empty_line s (take n xs) ≡ Some n
 empty_line_alone s [] n e = cc
 empty_line_alone s (x ∷ xs) n e =
     let r = at (next_spot s x) (λ u k f. empty_line_alone u xs k f) e in
-    subst (λ (j : ℕ). empty_line s (take j (x ∷ xs)) ≡ Some j) r.1 r.2
+    subst (λ (j : ℕ). first_empty_line s (take j (x ∷ xs)) ≡ Some j) r.1 r.2
   where
-    by_rest : (u : Spot) → ((k : ℕ) → empty_line u xs ≡ Some k → empty_line u (take k xs) ≡ Some k) → (o : Option ℕ) → empty_line u xs ≡ o
-        → option_map (λ n. n + 1) o ≡ Some n → (k : ℕ) × (suc k ≡ n) × (option_map (λ n. n + 1) (empty_line u (take k xs)) ≡ Some (suc k))
+    by_rest : (u : Spot) → ((k : ℕ) → first_empty_line u xs ≡ Some k → first_empty_line u (take k xs) ≡ Some k) → (o : Option ℕ) → first_empty_line u xs ≡ o
+        → option_map (λ n. n + 1) o ≡ Some n → (k : ℕ) × (suc k ≡ n) × (option_map (λ n. n + 1) (first_empty_line u (take k xs)) ≡ Some (suc k))
     by_rest u again None f e = cc
     by_rest u again (Some k) f e =
         let one : k + 1 ≡ n = cc in
         let same : k + 1 ≡ suc k = omega arith in
         (k, omega arith, ap (option_map (λ n. n + 1)) (again k f) ∙ ap Some same)
 
-    at : (o : Option Spot) → ((u : Spot) (k : ℕ) → empty_line u xs ≡ Some k → empty_line u (take k xs) ≡ Some k) → finds xs o ≡ Some n
+    at : (o : Option Spot) → ((u : Spot) (k : ℕ) → first_empty_line u xs ≡ Some k → first_empty_line u (take k xs) ≡ Some k) → finds xs o ≡ Some n
         → (k : ℕ) × (suc k ≡ n) × (finds (take k xs) o ≡ Some (suc k))
     at None again e = let one : 1 ≡ n = cc in (0, omega arith, refl)
-    at (Some u) again e = by_rest u (again u) (empty_line u xs) refl e
+    at (Some u) again e = by_rest u (again u) (first_empty_line u xs) refl e
 
 -- a text that was found in a window
 pub record IsCutAt (limit n : ℕ) (bytes : List ℕ) : Type 0 where
@@ -86,13 +86,13 @@ line_of_window limit n bytes e =
     let size = sym cut.count in
     (cut, ap first_line (sym same) ∙ first_line_alone (take limit bytes) n e ∙ ap Some size)
 
-pub end_of_window : (s : Spot) (limit n : ℕ) (bytes : List ℕ) → empty_line s (take limit bytes) ≡ Some n
-    → IsCutAt limit n bytes × (empty_line s (take n bytes) ≡ Some (length (take n bytes)))
+pub end_of_window : (s : Spot) (limit n : ℕ) (bytes : List ℕ) → first_empty_line s (take limit bytes) ≡ Some n
+    → IsCutAt limit n bytes × (first_empty_line s (take n bytes) ≡ Some (length (take n bytes)))
 end_of_window s limit n bytes e =
     let cut = cut_at_window limit n bytes (empty_line_is_found s (take limit bytes) n e).within in
     let same = take-take n limit bytes cut.low in
     let size = sym cut.count in
-    (cut, ap (empty_line s) (sym same) ∙ empty_line_alone s (take limit bytes) n e ∙ ap Some size)
+    (cut, ap (first_empty_line s) (sym same) ∙ empty_line_alone s (take limit bytes) n e ∙ ap Some size)
 
 -- ---- what a turn says of a body that was read
 
@@ -123,7 +123,7 @@ IsRest (Line sought) b body text = (later : List ℕ) × (body ≡ b ++ later) �
 IsRest (Data n) b body text =
     (content : List ℕ) × (later : List ℕ) × (rest : List ℕ) × (text ≡ content ++ (13 ∷ 10 ∷ rest)) × (length content ≡ n)
     × (body ≡ b ++ (content ++ later)) × Chunks (length b + n) later rest
-IsRest (Trailer search) b body text = (body ≡ b) × (empty_line Fresh text ≡ Some (length text)) × (length text ≤ TRAILER_LIMIT)
+IsRest (Trailer search) b body text = (body ≡ b) × (first_empty_line Fresh text ≡ Some (length text)) × (length text ≤ max_trailer)
 
 -- the bytes begin with such a text
 pub record IsRestRead (part : Part) (b : List ℕ) (at : ℕ) (bytes body : List ℕ) (end : ℕ) : Type 0 where
@@ -166,14 +166,14 @@ positive zero none = cc
 positive (suc n) none = omega arith
 
 -- a chunk's line, and what comes after it
-module _ (sought : ℕ) (b : List ℕ) (at : ℕ) (bytes body : List ℕ) (end n size : ℕ) (found : first_line (take CHUNK_LINE_LIMIT bytes) ≡ Some n)
-    (sized : size_of (take n bytes) ≡ Some size) (small : length b + size ≤ BODY_LIMIT) where
+module _ (sought : ℕ) (b : List ℕ) (at : ℕ) (bytes body : List ℕ) (end n size : ℕ) (found : first_line (take max_chunk_line bytes) ≡ Some n)
+    (sized : size_of (take n bytes) ≡ Some size) (small : length b + size ≤ max_body) where
   last_chunk : eqb size 0 ≡ true → IsRestRead (Trailer (record { sought = 0; spot = Fresh })) b (at + n) (drop n bytes) body end
       → IsRestRead (Line sought) b at bytes body end
   last_chunk t r =
       let none = eqb-true size 0 t in
       let line = take n bytes in
-      let window = line_of_window CHUNK_LINE_LIMIT n bytes found in
+      let window = line_of_window max_chunk_line n bytes found in
       let low = window.0.low in
       let count = window.0.count in
       let place = r.place in
@@ -194,7 +194,7 @@ module _ (sought : ℕ) (b : List ℕ) (at : ℕ) (bytes body : List ℕ) (end n
   next_chunk t r =
       let some = positive size t in
       let line = take n bytes in
-      let window = line_of_window CHUNK_LINE_LIMIT n bytes found in
+      let window = line_of_window max_chunk_line n bytes found in
       let low = window.0.low in
       let count = window.0.count in
       let place = r.place in
@@ -215,46 +215,46 @@ module _ (sought : ℕ) (b : List ℕ) (at : ℕ) (bytes body : List ℕ) (end n
 
 line_rest : (sought : ℕ) (b : List ℕ) (at : ℕ) (bytes body : List ℕ) (end : ℕ) → IsKnown at bytes body end
     → body_from (Line sought) b at bytes ≡ ended body end → IsRestRead (Line sought) b at bytes body end
-line_rest sought b at bytes body end known e = by_line (first_line (take CHUNK_LINE_LIMIT bytes)) refl
+line_rest sought b at bytes body end known e = by_line (first_line (take max_chunk_line bytes)) refl
   where
-    by_part : (n size : ℕ) → first_line (take CHUNK_LINE_LIMIT bytes) ≡ Some n → size_of (take n bytes) ≡ Some size → length b + size ≤ BODY_LIMIT
+    by_part : (n size : ℕ) → first_line (take max_chunk_line bytes) ≡ Some n → size_of (take n bytes) ≡ Some size → length b + size ≤ max_body
         → (t : Bool) → eqb size 0 ≡ t
         → IsRestRead (cond t (Trailer (record { sought = 0; spot = Fresh })) (Data size)) b (at + n) (drop n bytes) body end
         → IsRestRead (Line sought) b at bytes body end
     by_part n size found sized small true t r = last_chunk sought b at bytes body end n size found sized small t r
     by_part n size found sized small false t r = next_chunk sought b at bytes body end n size found sized small t r
 
-    by_sum : (n size : ℕ) → first_line (take CHUNK_LINE_LIMIT bytes) ≡ Some n → size_of (take n bytes) ≡ Some size
-        → (t : Bool) → nat_lt BODY_LIMIT (length b + size) ≡ t → IsRestRead (Line sought) b at bytes body end
+    by_sum : (n size : ℕ) → first_line (take max_chunk_line bytes) ≡ Some n → size_of (take n bytes) ≡ Some size
+        → (t : Bool) → nat_lt max_body (length b + size) ≡ t → IsRestRead (Line sought) b at bytes body end
     by_sum n size found sized true t =
         absurd (no_fault (Line sought) b at bytes body end e (fault_at BodyLong at)
         (ap (line_turn b at bytes) found
         ∙ ap (λ o. size_turn b at n (next_part (length b) o)) sized
-        ∙ ap (size_turn b at n) (cond-true (nat_lt BODY_LIMIT (length b + size)) (Err BodyLong) (Ok (part_after size)) t)))
+        ∙ ap (size_turn b at n) (cond-true (nat_lt max_body (length b + size)) (Err BodyLong) (Ok (part_after size)) t)))
     by_sum n size found sized false t =
         let lead = leads (Line sought) b at bytes body end e (part_after size) b n
         (ap (line_turn b at bytes) found
         ∙ ap (λ o. size_turn b at n (next_part (length b) o)) sized
-        ∙ ap (size_turn b at n) (cond-false (nat_lt BODY_LIMIT (length b + size)) (Err BodyLong) (Ok (part_after size)) t)) in
+        ∙ ap (size_turn b at n) (cond-false (nat_lt max_body (length b + size)) (Err BodyLong) (Ok (part_after size)) t)) in
         by_part n size found sized (ltb-false _ _ t) (eqb size 0) refl (known (part_after size) b n lead.0 lead.1 lead.2)
 
-    by_size : (n : ℕ) → first_line (take CHUNK_LINE_LIMIT bytes) ≡ Some n → (o : Option ℕ) → size_of (take n bytes) ≡ o
+    by_size : (n : ℕ) → first_line (take max_chunk_line bytes) ≡ Some n → (o : Option ℕ) → size_of (take n bytes) ≡ o
         → IsRestRead (Line sought) b at bytes body end
     by_size n found None sized =
         absurd (no_fault (Line sought) b at bytes body end e (fault_at BadChunk at)
         (ap (line_turn b at bytes) found ∙ ap (λ o. size_turn b at n (next_part (length b) o)) sized))
-    by_size n found (Some size) sized = by_sum n size found sized (nat_lt BODY_LIMIT (length b + size)) refl
+    by_size n found (Some size) sized = by_sum n size found sized (nat_lt max_body (length b + size)) refl
 
-    by_window : (t : Bool) → nat_lt (length bytes) CHUNK_LINE_LIMIT ≡ t → first_line (take CHUNK_LINE_LIMIT bytes) ≡ None → ⊥
+    by_window : (t : Bool) → nat_lt (length bytes) max_chunk_line ≡ t → first_line (take max_chunk_line bytes) ≡ None → ⊥
     by_window true t found =
         no_wait (Line sought) b at bytes body end e
-        (ap (line_turn b at bytes) found ∙ cond-true (nat_lt (length bytes) CHUNK_LINE_LIMIT) waits (fails (fault_at BadChunk at)) t)
+        (ap (line_turn b at bytes) found ∙ cond-true (nat_lt (length bytes) max_chunk_line) waits (fails (fault_at BadChunk at)) t)
     by_window false t found =
         no_fault (Line sought) b at bytes body end e (fault_at BadChunk at)
-        (ap (line_turn b at bytes) found ∙ cond-false (nat_lt (length bytes) CHUNK_LINE_LIMIT) waits (fails (fault_at BadChunk at)) t)
+        (ap (line_turn b at bytes) found ∙ cond-false (nat_lt (length bytes) max_chunk_line) waits (fails (fault_at BadChunk at)) t)
 
-    by_line : (o : Option ℕ) → first_line (take CHUNK_LINE_LIMIT bytes) ≡ o → IsRestRead (Line sought) b at bytes body end
-    by_line None found = absurd (by_window (nat_lt (length bytes) CHUNK_LINE_LIMIT) refl found)
+    by_line : (o : Option ℕ) → first_line (take max_chunk_line bytes) ≡ o → IsRestRead (Line sought) b at bytes body end
+    by_line None found = absurd (by_window (nat_lt (length bytes) max_chunk_line) refl found)
     by_line (Some n) found = by_size n found (size_of (take n bytes)) refl
 
 -- what comes of a chunk's data
@@ -304,21 +304,21 @@ data_rest n b at bytes body end known e = by_count (nat_lt (length bytes) (n + 2
 
 trailer_rest : (search : Search) (b : List ℕ) (at : ℕ) (bytes body : List ℕ) (end : ℕ) → body_from (Trailer search) b at bytes ≡ ended body end
     → IsRestRead (Trailer search) b at bytes body end
-trailer_rest search b at bytes body end e = by_line (empty_line Fresh (take TRAILER_LIMIT bytes)) refl
+trailer_rest search b at bytes body end e = by_line (first_empty_line Fresh (take max_trailer bytes)) refl
   where
-    by_window : (t : Bool) → nat_lt (length bytes) TRAILER_LIMIT ≡ t → empty_line Fresh (take TRAILER_LIMIT bytes) ≡ None → ⊥
+    by_window : (t : Bool) → nat_lt (length bytes) max_trailer ≡ t → first_empty_line Fresh (take max_trailer bytes) ≡ None → ⊥
     by_window true t found =
         no_wait (Trailer search) b at bytes body end e
-        (ap (trailer_turn b at bytes) found ∙ cond-true (nat_lt (length bytes) TRAILER_LIMIT) waits (fails (fault_at BadChunk at)) t)
+        (ap (trailer_turn b at bytes) found ∙ cond-true (nat_lt (length bytes) max_trailer) waits (fails (fault_at BadChunk at)) t)
     by_window false t found =
         no_fault (Trailer search) b at bytes body end e (fault_at BadChunk at)
-        (ap (trailer_turn b at bytes) found ∙ cond-false (nat_lt (length bytes) TRAILER_LIMIT) waits (fails (fault_at BadChunk at)) t)
+        (ap (trailer_turn b at bytes) found ∙ cond-false (nat_lt (length bytes) max_trailer) waits (fails (fault_at BadChunk at)) t)
 
-    by_line : (o : Option ℕ) → empty_line Fresh (take TRAILER_LIMIT bytes) ≡ o → IsRestRead (Trailer search) b at bytes body end
-    by_line None found = absurd (by_window (nat_lt (length bytes) TRAILER_LIMIT) refl found)
+    by_line : (o : Option ℕ) → first_empty_line Fresh (take max_trailer bytes) ≡ o → IsRestRead (Trailer search) b at bytes body end
+    by_line None found = absurd (by_window (nat_lt (length bytes) max_trailer) refl found)
     by_line (Some n) found =
         let close = closes (Trailer search) b at bytes body end e b n (ap (trailer_turn b at bytes) found) in
-        let window = end_of_window Fresh TRAILER_LIMIT n bytes found in
+        let window = end_of_window Fresh max_trailer n bytes found in
         let low = window.0.low in
         let count = window.0.count in
         let place = close.2 in record {

@@ -12,14 +12,14 @@ use Rattle.rs_wire.specs.declared.body.Part.TheVariants.{Length, Line, Data, Tra
 use Rattle.rs_wire.specs.declared.head.Begun.{Begun}
 use Rattle.rs_wire.specs.declared.message.RequestMessage.{RequestMessage}
 use Rattle.rs_wire.specs.declared.search.Spot.TheVariants.{Before, Fresh}
-use Rattle.rs_wire.specs.declared.limits.TheConstants.{HEAD_LIMIT, BODY_LIMIT, CHUNK_LINE_LIMIT, TRAILER_LIMIT}
-use Rattle.rs_wire.specs.Lines.{is_break, past_breaks, first_line, empty_line}
+use Rattle.rs_wire.specs.Limits.{max_head, max_body, max_chunk_line, max_trailer}
+use Rattle.rs_wire.specs.Lines.{is_break, past_breaks, first_line, first_empty_line}
 use Rattle.rs_wire.specs.ChunkTexts.{size_of}
-use Rattle.rs_wire.specs.RequestHeads.{judged, with_length, head_of}
+use Rattle.rs_wire.specs.RequestHeads.{judged_request, with_length, head_at}
 use Rattle.rs_wire.specs.Bodies.{ended, waits, goes, ends, fails, fault_at, part_after, next_part, size_turn, line_turn, trailer_turn, has_line_end, first_part, body_from}
-use Rattle.rs_wire.specs.Readings.{begun, reading_by, reading}
+use Rattle.rs_wire.specs.Readings.{begun, reading_by, request_reading}
 use Rattle.rs_wire.specs.Division.{message_by, message_at}
-use Rattle.rs_wire.specs.Spelling.{IsLine, Chunks, chunk, last, SpellsBody, Spells}
+use Rattle.rs_wire.specs.Spelling.{IsLine, Chunks, chunk, last, SpellsBody, SpellsRequest}
 use Rattle.rs_wire.proofs.LinesLemmas.{empty_line_is_found, first_line_is_first, window_more}
 use Rattle.rs_wire.proofs.TextLemmas.{test_from_AllPass, no_token_10, no_token_13}
 use Rattle.rs_wire.proofs.RequestLemmas.{request_found}
@@ -33,18 +33,18 @@ line_in_window limit line after is short =
     let larger = window_more limit line after in
     ap first_line (larger.1 ∙ ap (λ xs. xs ++ larger.0) (take_all limit line short)) ∙ (first_line_is_first line (length line) is).stays larger.0
 
-end_in_window : (start : _) (limit : ℕ) (text after : List ℕ) → empty_line start text ≡ Some (length text) → length text ≤ limit
-    → empty_line start (take limit (text ++ after)) ≡ Some (length text)
+end_in_window : (start : _) (limit : ℕ) (text after : List ℕ) → first_empty_line start text ≡ Some (length text) → length text ≤ limit
+    → first_empty_line start (take limit (text ++ after)) ≡ Some (length text)
 end_in_window start limit text after is short =
     let larger = window_more limit text after in
-    ap (empty_line start) (larger.1 ∙ ap (λ xs. xs ++ larger.0) (take_all limit text short)) ∙ (empty_line_is_found start text (length text) is).stays larger.0
+    ap (first_empty_line start) (larger.1 ∙ ap (λ xs. xs ++ larger.0) (take_all limit text short)) ∙ (empty_line_is_found start text (length text) is).stays larger.0
 
 -- ---- chunks
 
-line_goes : (b line after : List ℕ) (at size : ℕ) → IsLine line → length line ≤ CHUNK_LINE_LIMIT → size_of line ≡ Some size → length b + size ≤ BODY_LIMIT
+line_goes : (b line after : List ℕ) (at size : ℕ) → IsLine line → length line ≤ max_chunk_line → size_of line ≡ Some size → length b + size ≤ max_body
     → body_from (Line 0) b at (line ++ after) ≡ body_from (part_after size) b (at + length line) after
 line_goes b line after at size is short sized small =
-    let found = line_in_window CHUNK_LINE_LIMIT line after is short in
+    let found = line_in_window max_chunk_line line after is short in
     let text = take_at line after (length line) refl in
     let next : next_part (length b) (size_of (take (length line) (line ++ after))) ≡ Ok (part_after size) =
     ap (λ xs. next_part (length b) (size_of xs)) text ∙ ap (next_part (length b)) sized
@@ -67,17 +67,17 @@ data_goes b content rest at =
     (cond-false _ waits _ (le-ltb _ _ enough) ∙ cond-true _ (goes (Line 0) (b ++ take n xs) (n + 2)) (fails (fault_at BadChunk (at + n))) good)
     ∙ (λ i. body_from (Line 0) (b ++ content_is i) (at + (n + 2)) (rest_is i))
 
-trailer_ends : (b trailer after : List ℕ) (at : ℕ) → empty_line Fresh trailer ≡ Some (length trailer) → length trailer ≤ TRAILER_LIMIT
+trailer_ends : (b trailer after : List ℕ) (at : ℕ) → first_empty_line Fresh trailer ≡ Some (length trailer) → length trailer ≤ max_trailer
     → body_from (Trailer (record { sought = 0; spot = Fresh })) b at (trailer ++ after) ≡ ended b (at + length trailer)
 trailer_ends b trailer after at is short =
     body_step (Trailer (record { sought = 0; spot = Fresh })) b at (trailer ++ after) (ends b (length trailer))
-    (ap (trailer_turn b at (trailer ++ after)) (end_in_window Fresh TRAILER_LIMIT trailer after is short))
+    (ap (trailer_turn b at (trailer ++ after)) (end_in_window Fresh max_trailer trailer after is short))
 
 chunks_read : (so_far : ℕ) (body bytes : List ℕ) → Chunks so_far body bytes → (b after : List ℕ) (at : ℕ) → length b ≡ so_far
     → body_from (Line 0) b at (bytes ++ after) ≡ ended (b ++ body) (at + length bytes)
 chunks_read so_far body bytes (chunk line content later rest is short sized some small chunks body_is bytes_is) b after at same =
     let n = length content in
-    let low : length b + n ≤ BODY_LIMIT = omega arith in
+    let low : length b + n ≤ max_body = omega arith in
     let next : part_after n ≡ Data n = cond-false (eqb n 0) (Trailer (record { sought = 0; spot = Fresh })) (Data n) (ne_eqb n 0 (λ none. absurd (omega arith))) in
     let text : bytes ++ after ≡ line ++ (content ++ (13 ∷ 10 ∷ (rest ++ after))) =
     ap (λ xs. xs ++ after) bytes_is ∙ append_assoc line (content ++ (13 ∷ 10 ∷ rest)) after ∙ ap (λ xs. line ++ xs) (append_assoc content (13 ∷ 10 ∷ rest) after) in
@@ -91,7 +91,7 @@ chunks_read so_far body bytes (chunk line content later rest is short sized some
     ∙ chunks_read (so_far + n) later rest chunks (b ++ content) after (at + length line + (n + 2)) sum
     ∙ (λ i. ended ((append_assoc b content later ∙ ap (λ xs. b ++ xs) (sym body_is)) i) (place i))
 chunks_read so_far [] bytes (last line trailer is short sized small ending brief bytes_is) b after at same =
-    let low : length b + 0 ≤ BODY_LIMIT = omega arith in
+    let low : length b + 0 ≤ max_body = omega arith in
     let text : bytes ++ after ≡ line ++ (trailer ++ after) = ap (λ xs. xs ++ after) bytes_is ∙ append_assoc line trailer after in
     let place : at + length line + length trailer ≡ at + length bytes = omega (arith, ap length bytes_is, length-append line trailer) in
     ap (body_from (Line 0) b at) text
@@ -146,8 +146,8 @@ head_clean h none valid =
     by_method (b ∷ method) some all xs =
         cond-false (is_break b) (past_breaks (method ++ xs)) (b ∷ (method ++ xs)) (no_break b (and_parts (is_token_byte b) (list_all is_token_byte method) all).0)
 
-head_read : (place : ℕ) (m : RequestMessage) (bytes : List ℕ) (s : Spells place m bytes) (after : List ℕ)
-    → head_of place ((s.breaks ++ print_request s.head) ++ after) ≡ Some (Ok (s.begun, length (s.breaks ++ print_request s.head)))
+head_read : (place : ℕ) (m : RequestMessage) (bytes : List ℕ) (s : SpellsRequest place m bytes) (after : List ℕ)
+    → head_at place ((s.breaks ++ print_request s.head) ++ after) ≡ Some (Ok (s.begun, length (s.breaks ++ print_request s.head)))
 head_read place m bytes s after =
     let T = s.breaks ++ print_request s.head in
     let n = length T in
@@ -155,18 +155,18 @@ head_read place m bytes s after =
     let clean = head_clean h s.first s.valid in
     let text : past_breaks (take n (T ++ after)) ≡ print_request h = ap past_breaks (take_at T after n refl) ∙ breaks_dropped s.breaks (print_request h) s.dropped ∙ clean in
     let found = request_found (print_request h) h clean (s.valid, sym (append-nil (print_request h))) in
-    head_text place (T ++ after) n (end_in_window Before HEAD_LIMIT T after s.ends s.short)
-    ∙ ap (λ r. Some (with_length n r)) (ap (judged place) text ∙ judged_some place (print_request h) h found ∙ s.judged)
+    head_text place (T ++ after) n (end_in_window Before max_head T after s.ends s.short)
+    ∙ ap (λ r. Some (with_length n r)) (ap (judged_request place) text ∙ judged_some place (print_request h) h found ∙ s.judged)
 
 -- ---- a message
 
-reading_read : (place : ℕ) (b : Begun) (n : ℕ) (T tail : List ℕ) (body : List ℕ) (end : ℕ) → length T ≡ n → head_of place (T ++ tail) ≡ Some (Ok (b, n))
-    → body_from (first_part b.framing) [] (place + n) tail ≡ ended body end → reading place (T ++ tail) ≡ begun b (ended body end)
-unfolding reading
+reading_read : (place : ℕ) (b : Begun) (n : ℕ) (T tail : List ℕ) (body : List ℕ) (end : ℕ) → length T ≡ n → head_at place (T ++ tail) ≡ Some (Ok (b, n))
+    → body_from (first_part b.framing) [] (place + n) tail ≡ ended body end → request_reading place (T ++ tail) ≡ begun b (ended body end)
+unfolding request_reading
 reading_read place b n T tail body end same e whole =
     ap (reading_by place (T ++ tail)) e ∙ ap (λ xs. begun b (body_from (first_part b.framing) [] (place + n) xs)) (drop_at T tail n same) ∙ ap (begun b) whole
 
-pub spelled_is_read : (place : ℕ) (m : RequestMessage) (bytes after : List ℕ) → Spells place m bytes → message_at place (bytes ++ after) ≡ Some (m, place + length bytes)
+pub spelled_is_read : (place : ℕ) (m : RequestMessage) (bytes after : List ℕ) → SpellsRequest place m bytes → message_at place (bytes ++ after) ≡ Some (m, place + length bytes)
 unfolding message_at
 spelled_is_read place m bytes after s =
     let T = s.breaks ++ print_request s.head in
@@ -174,12 +174,12 @@ spelled_is_read place m bytes after s =
     let text : bytes ++ after ≡ T ++ (s.tail ++ after) = ap (λ xs. xs ++ after) s.whole ∙ append_assoc T s.tail after in
     let body = body_read s.begun.framing m.body s.tail after (place + n) s.body in
     let end : place + n + length s.tail ≡ place + length bytes = omega (arith, ap length s.whole, length-append T s.tail) in
-    ap (λ xs. message_by (reading place xs)) text
+    ap (λ xs. message_by (request_reading place xs)) text
     ∙ ap message_by (reading_read place s.begun n T (s.tail ++ after) m.body (place + n + length s.tail) refl (head_read place m bytes s (s.tail ++ after)) body)
     ∙ (λ i. Some (sym s.same i, end i))
 
 -- no spelling is a proper prefix of one
-pub no_proper_prefix : (place : ℕ) (m k : RequestMessage) (bytes after : List ℕ) → Spells place m bytes → Spells place k (bytes ++ after) → (m ≡ k) × (after ≡ [])
+pub no_proper_prefix : (place : ℕ) (m k : RequestMessage) (bytes after : List ℕ) → SpellsRequest place m bytes → SpellsRequest place k (bytes ++ after) → (m ≡ k) × (after ≡ [])
 no_proper_prefix place m k bytes after s t =
     let first = spelled_is_read place m bytes after s in
     let second = ap (message_at place) (sym (append-nil (bytes ++ after))) ∙ spelled_is_read place k (bytes ++ after) [] t in

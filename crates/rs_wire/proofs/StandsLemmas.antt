@@ -28,42 +28,42 @@ use Rattle.rs_wire.specs.declared.reader.Stage.{Stage}
 use Rattle.rs_wire.specs.declared.reader.Stage.TheVariants.{Head, Stopped}
 use Rattle.rs_wire.specs.declared.reader.Stage.TheVariants as stage
 use Rattle.rs_wire.specs.declared.reader.RequestReader.{RequestReader}
-use Rattle.rs_wire.specs.declared.limits.TheConstants.{HEAD_LIMIT, TRAILER_LIMIT}
+use Rattle.rs_wire.specs.Limits.{max_head, max_trailer}
 use Rattle.rs_wire.specs.Lines.{is_break, first_line, spot_after}
 use Rattle.rs_wire.specs.Sought.{IsSought}
-use Rattle.rs_wire.specs.RequestHeads.{head_of, IsHeadWithin}
+use Rattle.rs_wire.specs.RequestHeads.{head_at, IsHeadWithin}
 use Rattle.rs_wire.specs.Bodies.{Body, fault_at, first_part, body_from}
-use Rattle.rs_wire.specs.BodyReaders.{IsPartAt, IsSameBody, body_of, Moves, IsMove}
-use Rattle.rs_wire.specs.Readings.{Reading, unread, refused, begun, reading_by, reading, Fed, fed_with, Answer, more, interim, message, fault, body_answer, reading_answer, answer_by, answer, step_of, fed_after, finish_by, finish_of}
-use Rattle.rs_wire.specs.Readers.{StandsAtHead, StandsInBody, StandsAt, IsFed, Stands, Turns}
+use Rattle.rs_wire.specs.BodyReaders.{IsPartAt, IsSameBody, reader_body, Moves, IsMove}
+use Rattle.rs_wire.specs.Readings.{Reading, unread, refused, begun, reading_by, request_reading, Fed, fed_with, Answer, more, interim, message, fault, body_answer, reading_answer, answer_by, next_of, step_of, fed_after, finish_by, finish_of}
+use Rattle.rs_wire.specs.Readers.{StandsAtHead, StandsInBody, StandsAt, IsFed, Stands, IsReaderTurn}
 use Rattle.rs_wire.proofs.HeadLemmas.{head_stays, head_has_text}
 use Rattle.rs_wire.proofs.LinesLemmas.{window_more}
 
 -- what `next` may answer, from what is due
-pub turned : (fed : Fed) (new : RequestReader) (a : Answer) → answer fed ≡ a → Stands new (fed_after fed a)
-    → (step_of (answer fed) ≡ step_of a) × Stands new (fed_after fed (answer fed))
+pub turned : (fed : Fed) (new : RequestReader) (a : Answer) → next_of fed ≡ a → Stands new (fed_after fed a)
+    → (step_of (next_of fed) ≡ step_of a) × Stands new (fed_after fed (next_of fed))
 turned fed new a e stands = (ap step_of e, subst (λ (a : Answer). Stands new (fed_after fed a)) (sym e) stands)
 
-answer_is : (fed : Fed) (r : Reading) → fed.fault ≡ None → reading fed.place fed.bytes ≡ r → answer fed ≡ reading_answer fed.told r
-unfolding answer
+answer_is : (fed : Fed) (r : Reading) → fed.fault ≡ None → request_reading fed.place fed.bytes ≡ r → next_of fed ≡ reading_answer fed.told r
+unfolding next_of
 answer_is fed r whole e = (λ i. answer_by (whole i) fed.told (e i))
 
 -- ---- at a head
 
 module _ (search : Search) (taken : ℕ) (left : List ℕ) (fed : Fed) (stands : StandsAtHead search taken left fed) where
-  read_at : (o : Option (Result (Begun × ℕ) WireWhy)) → head_of taken left ≡ o → reading fed.place fed.bytes ≡ reading_by taken left o
-  unfolding reading
-  read_at o e = (λ i. reading_by (stands.place i) (stands.bytes i) (head_of (stands.place i) (stands.bytes i))) ∙ ap (reading_by taken left) e
+  read_at : (o : Option (Result (Begun × ℕ) WireWhy)) → head_at taken left ≡ o → request_reading fed.place fed.bytes ≡ reading_by taken left o
+  unfolding request_reading
+  read_at o e = (λ i. reading_by (stands.place i) (stands.bytes i) (head_at (stands.place i) (stands.bytes i))) ∙ ap (reading_by taken left) e
 
-  pub head_waits : head_of taken left ≡ None → answer fed ≡ more
+  pub head_waits : head_at taken left ≡ None → next_of fed ≡ more
   head_waits e = answer_is fed unread stands.whole (read_at None e)
 
-  pub head_fails : (why : WireWhy) → head_of taken left ≡ Some (Err why) → answer fed ≡ fault (fault_at why taken)
+  pub head_fails : (why : WireWhy) → head_at taken left ≡ Some (Err why) → next_of fed ≡ fault (fault_at why taken)
   head_fails why e = answer_is fed (refused (fault_at why taken)) stands.whole (read_at (Some (Err why)) e)
 
 -- the search may have come further
 pub head_sought : (search next : Search) (taken : ℕ) (left : List ℕ) (fed : Fed) → IsFed (Head search) taken left fed
-    → IsSought Before next (take HEAD_LIMIT left) → IsFed (Head next) taken left fed
+    → IsSought Before next (take max_head left) → IsFed (Head next) taken left fed
 head_sought search next taken left fed f sought = record {
   count = f.count;
   small = f.small;
@@ -79,10 +79,10 @@ first_fits framed.Chunked rest = record { low = omega arith; within = omega arit
 taken_count : (taken n : ℕ) (left : List ℕ) → n ≤ length left → taken + n + length (drop n left) ≡ taken + length left
 taken_count taken n left within = omega (arith, length-drop n left)
 
-opening : (taken n : ℕ) (left after : List ℕ) (opened : Opened) → head_of taken left ≡ Some (Ok (opened.begun, n)) → n ≤ length left
+opening : (taken n : ℕ) (left after : List ℕ) (opened : Opened) → head_at taken left ≡ Some (Ok (opened.begun, n)) → n ≤ length left
     → opened.reader.part ≡ first_part opened.begun.framing → opened.reader.body.items ≡ []
-    → reading taken (left ++ after) ≡ begun opened.begun (body_of opened.reader (taken + n) (drop n left ++ after))
-unfolding reading
+    → request_reading taken (left ++ after) ≡ begun opened.begun (reader_body opened.reader (taken + n) (drop n left ++ after))
+unfolding request_reading
 opening taken n left after opened e within part body =
     let p = sym part in
     let b = sym body in
@@ -92,7 +92,7 @@ opening taken n left after opened e within part body =
 
 -- a head was read
 pub head_opens : (search : Search) (taken n : ℕ) (left : List ℕ) (fed : Fed) (opened : Opened) → IsFed (Head search) taken left fed
-    → head_of taken left ≡ Some (Ok (opened.begun, n)) → n ≤ length left → opened.told ≡ false
+    → head_at taken left ≡ Some (Ok (opened.begun, n)) → n ≤ length left → opened.told ≡ false
     → opened.reader.part ≡ first_part opened.begun.framing → opened.reader.body.items ≡ []
     → IsFed (stage.Body opened) (taken + n) (drop n left) fed
 head_opens before taken n left fed opened f e within told part body =
@@ -110,7 +110,7 @@ head_opens before taken n left fed opened f e within told part body =
         ahead = ahead;
         rest = (let back = sym bytes in λ i. drop (far i) (back i));
         some = subst (λ (xs : List ℕ). list_all is_break xs ≡ false) (sym bytes) (head_has_text taken left opened.begun n e);
-        same = λ after. (λ i. reading (place i) (bytes i ++ after)) ∙ opening taken n left after opened e within part body;
+        same = λ after. (λ i. request_reading (place i) (bytes i ++ after)) ∙ opening taken n left after opened e within part body;
         fits = subst (λ (p : _). IsPartAt p (drop n left)) (sym part) (first_fits opened.begun.framing (drop n left));
       };
     }
@@ -118,19 +118,19 @@ head_opens before taken n left fed opened f e within told part body =
 -- ---- in a body
 
 module _ (opened : Opened) (taken : ℕ) (left : List ℕ) (fed : Fed) (stands : StandsInBody opened taken left fed) where
-  body_read : reading fed.place fed.bytes ≡ begun opened.begun (body_of opened.reader taken left)
+  body_read : request_reading fed.place fed.bytes ≡ begun opened.begun (reader_body opened.reader taken left)
   body_read =
-      ap (reading fed.place) (sym (append-nil fed.bytes)) ∙ stands.same []
-      ∙ ap (λ xs. begun opened.begun (body_of opened.reader taken xs)) (append-nil left)
+      ap (request_reading fed.place) (sym (append-nil fed.bytes)) ∙ stands.same []
+      ∙ ap (λ xs. begun opened.begun (reader_body opened.reader taken xs)) (append-nil left)
 
-  pub interim_due : (opened.begun.expects && not opened.told) ≡ true → answer fed ≡ interim
+  pub interim_due : (opened.begun.expects && not opened.told) ≡ true → next_of fed ≡ interim
   interim_due due =
       answer_is fed _ stands.whole body_read
-      ∙ (λ i. reading_answer (stands.told i) (begun opened.begun (body_of opened.reader taken left)))
-      ∙ (λ i. cond (due i) interim (body_answer opened.begun (body_of opened.reader taken left)))
+      ∙ (λ i. reading_answer (stands.told i) (begun opened.begun (reader_body opened.reader taken left)))
+      ∙ (λ i. cond (due i) interim (body_answer opened.begun (reader_body opened.reader taken left)))
 
-  pub body_due : (body : Body) → (opened.begun.expects && not opened.told) ≡ false → body_of opened.reader taken left ≡ body
-      → answer fed ≡ body_answer opened.begun body
+  pub body_due : (body : Body) → (opened.begun.expects && not opened.told) ≡ false → reader_body opened.reader taken left ≡ body
+      → next_of fed ≡ body_answer opened.begun body
   body_due body due e =
       answer_is fed _ stands.whole body_read
       ∙ (λ i. reading_answer (stands.told i) (begun opened.begun (e i)))
@@ -149,7 +149,7 @@ body_told opened next taken left fed f b r told = record {
     ahead = f.stands.ahead;
     rest = f.stands.rest;
     some = f.stands.some;
-    same = λ after. f.stands.same after ∙ (let c = sym b in let q = sym r in λ i. begun (c i) (body_of (q i) taken (left ++ after)));
+    same = λ after. f.stands.same after ∙ (let c = sym b in let q = sym r in λ i. begun (c i) (reader_body (q i) taken (left ++ after)));
     fits = subst (λ (x : BodyReader). IsPartAt x.part left) (sym r) f.stands.fits;
   };
 }
@@ -240,7 +240,7 @@ grown_part (Line sought) rest after fits =
       unfound = ap first_line (take-append-le sought rest after within) ∙ fits.unfound;
     }
 grown_part (Data n) rest after fits = tt
-grown_part (Trailer s) rest after fits = grown_search Fresh TRAILER_LIMIT s rest after fits
+grown_part (Trailer s) rest after fits = grown_search Fresh max_trailer s rest after fits
 
 grown_stage : (s : Stage) (taken : ℕ) (left : List ℕ) (fed : Fed) (piece : List ℕ) → taken + length left ≡ fed.place + length fed.bytes
     → StandsAt s taken left fed → StandsAt s taken (left ++ piece) (fed_with fed piece)
@@ -249,7 +249,7 @@ grown_stage (Head s) taken left fed piece count stands = record {
   told = stands.told;
   place = stands.place;
   bytes = ap (λ xs. xs ++ piece) stands.bytes;
-  sought = grown_search Before HEAD_LIMIT s left piece stands.sought;
+  sought = grown_search Before max_head s left piece stands.sought;
 }
 grown_stage (stage.Body opened) taken left fed piece count stands =
     let ahead = stands.ahead in record {
@@ -258,8 +258,8 @@ grown_stage (stage.Body opened) taken left fed piece count stands =
       ahead = ahead;
       rest = ap (λ xs. xs ++ piece) stands.rest ∙ sym (drop-append-le (taken - fed.place) fed.bytes piece (omega arith));
       some = list_all-append is_break fed.bytes piece ∙ and_left _ _ stands.some;
-      same = λ after. ap (reading fed.place) (append_assoc fed.bytes piece after) ∙ stands.same (piece ++ after)
-          ∙ ap (λ xs. begun opened.begun (body_of opened.reader taken xs)) (sym (append_assoc left piece after));
+      same = λ after. ap (request_reading fed.place) (append_assoc fed.bytes piece after) ∙ stands.same (piece ++ after)
+          ∙ ap (λ xs. begun opened.begun (reader_body opened.reader taken xs)) (sym (append_assoc left piece after));
       fits = grown_part opened.reader.part left piece stands.fits;
     }
 grown_stage (Stopped f) taken left fed piece count stands = stands
@@ -275,25 +275,25 @@ grown s taken left fed piece f small =
 
 -- a turn that answers a fault
 pub turns_fault : (fed : Fed) (new : RequestReader) (r : Result (Option Step) NextFault) (f : WireFault) → r ≡ Err (Wire f)
-    → answer fed ≡ fault f → Stands new (record fed { fault = Some f }) → Turns fed new r
+    → next_of fed ≡ fault f → Stands new (record fed { fault = Some f }) → IsReaderTurn fed new r
 turns_fault fed new r f e due stands =
-    let at : Result (Option Step) NextFault → Type 0 = λ r. Turns fed new r in
+    let at : Result (Option Step) NextFault → Type 0 = λ r. IsReaderTurn fed new r in
     subst at (sym e) (turned fed new (fault f) due stands)
 
 -- what the search for a head found, said of the bytes that are left
 pub record Finds (after : Search) (place : ℕ) (left : List ℕ) (r : Result (Option (Result (Begun × ℕ) WireWhy)) NoMemory) : Type 0 where
-  pub found : IfOk r (λ h. h ≡ head_of place left)
-  pub kept : IsSought Before after (take HEAD_LIMIT left)
+  pub found : IfOk r (λ h. h ≡ head_at place left)
+  pub kept : IsSought Before after (take max_head left)
   pub within : IfOk r (IsHeadWithin left)
 
 pub finds : (before after : Search) (place : ℕ) (bytes left : List ℕ) (r : Result (Option (Result (Begun × ℕ) WireWhy)) NoMemory) → bytes ≡ left
-    → (IsSought Before before (take HEAD_LIMIT bytes) → IfOk r (λ h. h ≡ head_of place bytes))
-    → (IsSought Before before (take HEAD_LIMIT bytes) → IsSought Before after (take HEAD_LIMIT bytes))
-    → IfOk r (IsHeadWithin bytes) → IsSought Before before (take HEAD_LIMIT left) → Finds after place left r
+    → (IsSought Before before (take max_head bytes) → IfOk r (λ h. h ≡ head_at place bytes))
+    → (IsSought Before before (take max_head bytes) → IsSought Before after (take max_head bytes))
+    → IfOk r (IsHeadWithin bytes) → IsSought Before before (take max_head left) → Finds after place left r
 finds before after place bytes left r e found kept within sought =
-    let here = subst (λ (xs : List ℕ). IsSought Before before (take HEAD_LIMIT xs)) (sym e) sought in record {
-      found = subst (λ (xs : List ℕ). IfOk r (λ h. h ≡ head_of place xs)) e (found here);
-      kept = subst (λ (xs : List ℕ). IsSought Before after (take HEAD_LIMIT xs)) e (kept here);
+    let here = subst (λ (xs : List ℕ). IsSought Before before (take max_head xs)) (sym e) sought in record {
+      found = subst (λ (xs : List ℕ). IfOk r (λ h. h ≡ head_at place xs)) e (found here);
+      kept = subst (λ (xs : List ℕ). IsSought Before after (take max_head xs)) e (kept here);
       within = subst (λ (xs : List ℕ). IfOk r (IsHeadWithin xs)) e within;
     }
 
@@ -314,9 +314,9 @@ pub advanced : (old new : BodyReader) (at : ℕ) (bytes left : List ℕ) (r : Re
 advanced old new at bytes left r e ok = subst (λ (xs : List ℕ). IsPartAt old.part xs → at + length xs < 2 ^ 64 → IfOk r (IsMove old new at xs)) e ok
 
 -- a fault that was answered is answered again
-pub stopped_due : (fed : Fed) (f : WireFault) → fed.fault ≡ Some f → answer fed ≡ fault f
-unfolding answer
-stopped_due fed f e = ap (λ o. answer_by o fed.told (reading fed.place fed.bytes)) e
+pub stopped_due : (fed : Fed) (f : WireFault) → fed.fault ≡ Some f → next_of fed ≡ fault f
+unfolding next_of
+stopped_due fed f e = ap (λ o. answer_by o fed.told (request_reading fed.place fed.bytes)) e
 
 -- ---- the end of the stream
 

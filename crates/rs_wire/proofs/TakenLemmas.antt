@@ -7,13 +7,13 @@ use Rattle.httparse.specs.Grammar.{print_request}
 use Rattle.httparse.proofs.GrammarLemmas.{print_request-append}
 use Rattle.rs_wire.specs.declared.message.RequestMessage.{RequestMessage}
 use Rattle.rs_wire.specs.declared.message.Step.TheVariants.{Message}
-use Rattle.rs_wire.specs.declared.limits.TheConstants.{HEAD_LIMIT}
+use Rattle.rs_wire.specs.Limits.{max_head}
 use Rattle.rs_wire.specs.declared.search.Spot.TheVariants.{Before}
-use Rattle.rs_wire.specs.Lines.{is_break, past_breaks, empty_line}
-use Rattle.rs_wire.specs.Readings.{Fed, answer, interim, message, step_of, fed_after}
+use Rattle.rs_wire.specs.Lines.{is_break, past_breaks, first_empty_line}
+use Rattle.rs_wire.specs.Readings.{Fed, next_of, interim, message, step_of, fed_after}
 use Rattle.rs_wire.specs.Division.{message_at, Divides, fed_next}
 use Rattle.rs_wire.specs.Laws.{awaits}
-use Rattle.rs_wire.specs.Taken.{BeginsWith, SpellsAll}
+use Rattle.rs_wire.specs.Taken.{BeginsWithRequest, SpellsAll}
 use Rattle.rs_wire.proofs.RequestLemmas.{request_reads, no_blank}
 use Rattle.rs_wire.proofs.HeadLemmas.{past_breaks_twice}
 use Rattle.rs_wire.proofs.DivisionLemmas.{next_message}
@@ -42,12 +42,12 @@ broken (x ∷ xs) =
 
 -- ---- a request
 
-pub begins_with : (place : ℕ) (bytes : List ℕ) (m : RequestMessage) (next : ℕ) → message_at place bytes ≡ Some (m, next) → BeginsWith place bytes m next
+pub begins_with : (place : ℕ) (bytes : List ℕ) (m : RequestMessage) (next : ℕ) → message_at place bytes ≡ Some (m, next) → BeginsWithRequest place bytes m next
 begins_with place bytes m next e =
     let r = message_is_read place bytes m next e in
     let n = r.count in
     let read = head_is_read place bytes r.begun n r.head in
-    let window = end_of_window Before HEAD_LIMIT n bytes read.ends in
+    let window = end_of_window Before max_head n bytes read.ends in
     let low = window.0.low in
     let count = window.0.count in
     let T = take n bytes in
@@ -72,7 +72,7 @@ begins_with place bytes m next e =
         dropped = split.dropped;
         valid = reads.0;
         first = none;
-        ends = subst (λ (xs : List ℕ). empty_line Before xs ≡ Some (length xs)) text window.1;
+        ends = subst (λ (xs : List ℕ). first_empty_line Before xs ≡ Some (length xs)) text window.1;
         short = omega (arith, size, low);
         judged = read.judged;
         whole = refl;
@@ -81,21 +81,21 @@ begins_with place bytes m next e =
       };
     }
 
-pub read_where_it_begins : (place : ℕ) (bytes : List ℕ) (m : RequestMessage) (next : ℕ) → BeginsWith place bytes m next → message_at place bytes ≡ Some (m, next)
+pub read_where_it_begins : (place : ℕ) (bytes : List ℕ) (m : RequestMessage) (next : ℕ) → BeginsWithRequest place bytes m next → message_at place bytes ≡ Some (m, next)
 read_where_it_begins place bytes m next b =
     let end = b.end in
     ap (message_at place) b.whole ∙ spelled_is_read place m b.text b.rest b.spells ∙ (λ i. Some (m, sym end i))
 
 -- ---- what a reader answers
 
-pub given_begins : (fed : Fed) (m : RequestMessage) → step_of (answer fed) ≡ Ok (Message m)
-    → (next : ℕ) × BeginsWith fed.place fed.bytes m next × (fed_after fed (answer fed) ≡ fed_next fed next)
+pub given_begins : (fed : Fed) (m : RequestMessage) → step_of (next_of fed) ≡ Ok (Message m)
+    → (next : ℕ) × BeginsWithRequest fed.place fed.bytes m next × (fed_after fed (next_of fed) ≡ fed_next fed next)
 given_begins fed m e =
     let r = next_message fed m e in
     (r.0, begins_with fed.place fed.bytes m r.0 r.1, r.2)
 
-pub begun_is_given : (fed : Fed) (m : RequestMessage) (next : ℕ) → fed.fault ≡ None → BeginsWith fed.place fed.bytes m next
-    → answer fed ≡ cond (awaits m && not fed.told) interim (message m next)
+pub begun_is_given : (fed : Fed) (m : RequestMessage) (next : ℕ) → fed.fault ≡ None → BeginsWithRequest fed.place fed.bytes m next
+    → next_of fed ≡ cond (awaits m && not fed.told) interim (message m next)
 begun_is_given fed m next none b = message_answered fed m next none (read_where_it_begins fed.place fed.bytes m next b)
 
 -- ---- a stream

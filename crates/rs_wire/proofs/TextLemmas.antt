@@ -7,7 +7,8 @@ use Rattle.std.proofs.lemmas.List.Folds.{list_all-append}
 use Rattle.std.proofs.lemmas.List.Elements.{All-nil, All-cons}
 use Rattle.std.proofs.lemmas.Bool.{and_parts, and_from, not-true, not_from_false, ne_eqb, cond-true, cond-false, eq-eqb, both_ways, ltb-true, lt-ltb}
 use Rattle.httparse.specs.Grammar.{AllPass, IsToken, is_token, is_token_byte, is_value_byte, LineEnd, crlf, lf, print_end, Field, IsField, print_field, print_section}
-use Rattle.rs_wire.specs.Items.{before_pieces, pieces}
+use Rattle.std.specs.List.{onto_first}
+use Rattle.rs_wire.specs.Items.{pieces}
 use Rattle.rs_wire.specs.Texts.{cut, without_cr, field_in, fields_in, is_field}
 
 -- ---- tests
@@ -72,11 +73,11 @@ cut_at c (x ∷ xs) ys none =
     ∙ ap (λ (r : List ℕ × List ℕ). (x ∷ r.0, r.1)) (cut_at c xs ys parts.1)
 
 pub pieces_cut : (c : ℕ) (xs ys : List ℕ) → lacks c xs ≡ true → pieces c (xs ++ c ∷ ys) ≡ xs ∷ pieces c ys
-pieces_cut c [] ys none = cond-true (eqb c c) ([] ∷ pieces c ys) (before_pieces c (pieces c ys)) (eq-eqb c c refl)
+pieces_cut c [] ys none = cond-true (eqb c c) ([] ∷ pieces c ys) (onto_first c (pieces c ys)) (eq-eqb c c refl)
 pieces_cut c (x ∷ xs) ys none =
     let parts = and_parts (not (eqb x c)) (lacks c xs) none in
-    cond-false (eqb x c) ([] ∷ pieces c (xs ++ c ∷ ys)) (before_pieces x (pieces c (xs ++ c ∷ ys))) (not-true _ parts.0)
-    ∙ ap (before_pieces x) (pieces_cut c xs ys parts.1)
+    cond-false (eqb x c) ([] ∷ pieces c (xs ++ c ∷ ys)) (onto_first x (pieces c (xs ++ c ∷ ys))) (not-true _ parts.0)
+    ∙ ap (onto_first x) (pieces_cut c xs ys parts.1)
 
 -- what a line end leaves before its LF
 abbrev pub cr : LineEnd → List ℕ

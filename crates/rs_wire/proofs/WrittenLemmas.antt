@@ -10,16 +10,16 @@ use Rattle.rs_wire.specs.declared.field.Field.{Field}
 use Rattle.rs_wire.specs.declared.fault.WireWhy.TheVariants.{HeadLong}
 use Rattle.rs_wire.specs.declared.framing.Framing.TheVariants.{Length}
 use Rattle.rs_wire.specs.declared.message.RequestMessage.{RequestMessage}
-use Rattle.rs_wire.specs.declared.limits.TheConstants.{FIELD_LIMIT}
+use Rattle.rs_wire.specs.Limits.{max_fields}
 use Rattle.rs_wire.specs.declared.search.Spot.TheVariants.{Before}
-use Rattle.rs_wire.specs.Lines.{empty_line}
+use Rattle.rs_wire.specs.Lines.{first_empty_line}
 use Rattle.rs_wire.specs.Framing.{head_framing, expects_interim}
 use Rattle.rs_wire.specs.RequestHeads.{fields_of, begun_at, begun_by, judged_head}
-use Rattle.rs_wire.specs.Readings.{answer, interim, message}
+use Rattle.rs_wire.specs.Readings.{next_of, interim, message}
 use Rattle.rs_wire.specs.Division.{message_at}
-use Rattle.rs_wire.specs.Spelling.{Spells}
+use Rattle.rs_wire.specs.Spelling.{SpellsRequest}
 use Rattle.rs_wire.specs.Writing.{field_text, request_head_text, request_text, line_for, head_for, IsWritable}
-use Rattle.rs_wire.specs.Laws.{placed, fed_at, awaits_by}
+use Rattle.rs_wire.specs.Laws.{placed_at, fed_at, awaits_by}
 use Rattle.rs_wire.proofs.TextLemmas.{test_from_AllPass, lacks, lacks_by, lacks_append}
 use Rattle.rs_wire.proofs.RequestLemmas.{version_lacks}
 use Rattle.rs_wire.proofs.SpellingLemmas.{spelled_is_read}
@@ -49,11 +49,11 @@ request_lines_are h none =
     regroup : (a b c d e : List ℕ) → a ++ 32 ∷ (b ++ 32 ∷ (c ++ (d ++ e))) ≡ ((a ++ 32 ∷ (b ++ 32 ∷ c)) ++ d) ++ e
     regroup a b c d e = simp (append_assoc, cons-append)
 
-pub request_ends : (h : RequestHead) → h.blank ≡ [] → IsRequestHead h → empty_line Before (print_request h) ≡ Some (length (print_request h))
+pub request_ends : (h : RequestHead) → h.blank ≡ [] → IsRequestHead h → first_empty_line Before (print_request h) ≡ Some (length (print_request h))
 request_ends h none valid =
     let text = request_lines_are h none in
     let first = (h.method ++ after_method h) ++ print_end h.line_end in
-    ap (empty_line Before) text
+    ap (first_empty_line Before) text
     ∙ section_ends first h.fields h.last (first_line_ends h.method (after_method h) h.line_end valid.method (after_method_lacks h valid)) valid.fields
     ∙ ap (λ xs. Some (length xs)) (sym text)
 
@@ -89,13 +89,13 @@ head_judged : (place : ℕ) (m : RequestMessage) → IsWritable m
     → judged_head place (head_for m) ≡ Ok (begun_at place m.method m.target m.minor m.fields (Length (length m.body)))
 unfolding judged_head
 head_judged place m w =
-    let few : length (map line_for m.fields) ≤ FIELD_LIMIT = (let bound = w.few in omega (arith, length-map m.fields line_for)) in
+    let few : length (map line_for m.fields) ≤ max_fields = (let bound = w.few in omega (arith, length-map m.fields line_for)) in
     let back = fields_back m.fields w.trimmed in
-    cond-false (nat_lt FIELD_LIMIT (length (map line_for m.fields))) (Err HeadLong) _ (le-ltb FIELD_LIMIT (length (map line_for m.fields)) few)
+    cond-false (nat_lt max_fields (length (map line_for m.fields))) (Err HeadLong) _ (le-ltb max_fields (length (map line_for m.fields)) few)
     ∙ (λ i. begun_by place m.method m.target m.minor (back i) (head_framing m.minor (length m.target) (back i)))
     ∙ ap (begun_by place m.method m.target m.minor m.fields) w.framed
 
-pub written_is_spelled : (place : ℕ) (m : RequestMessage) → IsWritable m → Spells place (placed place m) (request_text m)
+pub written_is_spelled : (place : ℕ) (m : RequestMessage) → IsWritable m → SpellsRequest place (placed_at place m) (request_text m)
 written_is_spelled place m w =
     let h = head_for m in
     let close = w.close in
@@ -118,13 +118,13 @@ written_is_spelled place m w =
 -- ---- and so it is read
 
 pub written_is_read : (place : ℕ) (m : RequestMessage) (after : List ℕ) → IsWritable m
-    → message_at place (request_text m ++ after) ≡ Some (placed place m, place + length (request_text m))
-written_is_read place m after w = spelled_is_read place (placed place m) (request_text m) after (written_is_spelled place m w)
+    → message_at place (request_text m ++ after) ≡ Some (placed_at place m, place + length (request_text m))
+written_is_read place m after w = spelled_is_read place (placed_at place m) (request_text m) after (written_is_spelled place m w)
 
 pub written_is_answered : (place : ℕ) (m : RequestMessage) (after : List ℕ) (told : Bool) → IsWritable m
-    → answer (fed_at place (request_text m ++ after) told)
-    ≡ cond (expects_interim m.minor m.fields (Length (length m.body)) && not told) interim (message (placed place m) (place + length (request_text m)))
+    → next_of (fed_at place (request_text m ++ after) told)
+    ≡ cond (expects_interim m.minor m.fields (Length (length m.body)) && not told) interim (message (placed_at place m) (place + length (request_text m)))
 written_is_answered place m after told w =
     let next = place + length (request_text m) in
-    message_answered (fed_at place (request_text m ++ after) told) (placed place m) next refl (written_is_read place m after w)
-    ∙ (λ i. cond (awaits_by (placed place m) (w.framed i) && not told) interim (message (placed place m) next))
+    message_answered (fed_at place (request_text m ++ after) told) (placed_at place m) next refl (written_is_read place m after w)
+    ∙ (λ i. cond (awaits_by (placed_at place m) (w.framed i) && not told) interim (message (placed_at place m) next))

@@ -2,7 +2,7 @@
 use Rattle.std.specs.Prelude.{◌≡◌, ℕ, ◌-◌, false, List, [], ◌∷◌, drop, Option, Some, None}
 use Rattle.rs_wire.specs.declared.message.RequestMessage.{RequestMessage}
 use Rattle.rs_wire.specs.Bodies.{unended, ended, spoiled}
-use Rattle.rs_wire.specs.Readings.{Reading, unread, refused, begun, reading, Fed, with_body}
+use Rattle.rs_wire.specs.Readings.{Reading, unread, refused, begun, request_reading, Fed, with_body}
 
 -- the message that was read to its end, and the place after it
 abbrev pub message_by : Reading → Option (RequestMessage × ℕ)
@@ -14,7 +14,7 @@ message_by (begun b (spoiled f)) = None
 
 -- the first message of the bytes from this place in the stream on, where it is whole
 unfoldable pub message_at : ℕ → List ℕ → Option (RequestMessage × ℕ)
-message_at place bytes = message_by (reading place bytes)
+message_at place bytes = message_by (request_reading place bytes)
 
 -- the bytes from a place on are these messages, one after another, and then the rest from its place on
 abbrev pub Divides : ℕ → List ℕ → List RequestMessage → ℕ → List ℕ → Type 0

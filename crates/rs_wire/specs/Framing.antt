@@ -9,19 +9,19 @@ use Rattle.rs_wire.specs.declared.fault.WireWhy.{WireWhy}
 use Rattle.rs_wire.specs.declared.fault.WireWhy.TheVariants.{BadHead, TargetLong, BodyLong, BadLength, TwoLengths, Coding}
 use Rattle.rs_wire.specs.declared.framing.Framing.{Framing}
 use Rattle.rs_wire.specs.declared.framing.Framing.TheVariants.{Unstated, Length, Chunked}
-use Rattle.rs_wire.specs.declared.limits.TheConstants.{BODY_LIMIT, TARGET_LIMIT}
-use Rattle.rs_wire.specs.Names.{is_named, says}
+use Rattle.rs_wire.specs.Limits.{max_body, max_length_digits, max_target}
+use Rattle.rs_wire.specs.Names.{is_field_named, says}
 use Rattle.rs_wire.specs.Items.{lists}
 
 abbrev pub is_coding : Field → Bool
-is_coding f = is_named (codes "transfer-encoding") f
+is_coding f = is_field_named (codes "transfer-encoding") f
 
 abbrev pub is_length_field : Field → Bool
-is_length_field f = is_named (codes "content-length") f
+is_length_field f = is_field_named (codes "content-length") f
 
--- a length is 1 to 18 digits
+-- a length is digits, one at least and max_length_digits at most
 unfoldable pub is_length : List ℕ → Bool
-is_length text = nat_lt 0 (length text) && (nat_le (length text) 18 && list_all is_ascii_digit text)
+is_length text = nat_lt 0 (length text) && (nat_le (length text) max_length_digits && list_all is_ascii_digit text)
 
 -- two texts of Content-Length are the same: as numbers where both are lengths, and as texts otherwise
 unfoldable pub same_length : List ℕ → List ℕ → Bool
@@ -40,8 +40,8 @@ unfoldable pub has_bad_length : List Field → Bool
 has_bad_length fields = list_any (λ f. is_length_field f && not (is_length f.value)) fields
 
 -- the number of the first Content-Length
-abbrev pub number_of : Option Field → Framing
-number_of o = option_map_or (λ f. Length (digits_value 10 f.value)) o Unstated
+abbrev pub length_framing : Option Field → Framing
+length_framing o = option_map_or (λ f. Length (digits_value 10 f.value)) o Unstated
 
 -- there is one Transfer-Encoding, and it is `chunked`
 unfoldable pub is_chunked : List Field → Bool
@@ -52,13 +52,13 @@ is_chunked fields =
 unfoldable pub stated : List Field → Result Framing WireWhy
 stated fields =
     if list_any is_coding fields then (if is_chunked fields then (if list_any is_length_field fields then Err TwoLengths else Ok Chunked) else Err Coding)
-    else (if has_two_lengths fields then Err TwoLengths else (if has_bad_length fields then Err BadLength else Ok (number_of (find is_length_field fields))))
+    else (if has_two_lengths fields then Err TwoLengths else (if has_bad_length fields then Err BadLength else Ok (length_framing (find is_length_field fields))))
 
 -- a request whose fields state nothing has no body, and a body has a limit
 abbrev pub framed : Result Framing WireWhy → Result Framing WireWhy
 framed (Ok Unstated) = Ok (Length 0)
 framed (Ok Chunked) = Ok Chunked
-framed (Ok (Length n)) = if nat_lt BODY_LIMIT n then Err BodyLong else Ok (Length n)
+framed (Ok (Length n)) = if nat_lt max_body n then Err BodyLong else Ok (Length n)
 framed (Err why) = Err why
 
 -- how the body of a request is framed: version 1.0 has no codings
@@ -68,13 +68,13 @@ request_framing minor fields =
 
 -- a request of version 1.1 has exactly one Host
 unfoldable pub has_its_host : ℕ → List Field → Bool
-has_its_host minor fields = (minor == 0) || (count_by (is_named (codes "host")) fields == 1)
+has_its_host minor fields = (minor == 0) || (count_by (is_field_named (codes "host")) fields == 1)
 
 -- the framing of a request, or the first fault of its head
 unfoldable pub head_framing : ℕ → ℕ → List Field → Result Framing WireWhy
 head_framing minor target_length fields =
     if not (has_its_host minor fields) then Err BadHead
-    else (if nat_lt TARGET_LIMIT target_length then Err TargetLong else request_framing minor fields)
+    else (if nat_lt max_target target_length then Err TargetLong else request_framing minor fields)
 
 -- a body comes: in chunks, or with a length other than 0
 abbrev pub has_body : Framing → Bool
@@ -89,9 +89,9 @@ expects_interim minor fields framing =
 
 -- a Connection that lists `close`
 abbrev pub says_close : Field → Bool
-says_close f = is_named (codes "connection") f && lists (codes "close") f.value
+says_close f = is_field_named (codes "connection") f && lists (codes "close") f.value
 
 -- the connection ends after the reply
-unfoldable pub closes : ℕ → List Field → Bool
-closes minor fields =
+unfoldable pub ends_connection : ℕ → List Field → Bool
+ends_connection minor fields =
     (minor == 0) || list_any says_close fields

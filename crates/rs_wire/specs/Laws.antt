@@ -8,13 +8,13 @@ use Rattle.rs_wire.specs.Readings.{Fed}
 use Rattle.rs_wire.specs.Writing.{request_text}
 
 -- the request at this place in a stream
-abbrev pub placed : ℕ → RequestMessage → RequestMessage
-placed place m = record m { place = place }
+abbrev pub placed_at : ℕ → RequestMessage → RequestMessage
+placed_at place m = record m { place = place }
 
 -- the requests at their places, where they are written one after another from this place on
 abbrev pub placed_from : ℕ → List RequestMessage → List RequestMessage
 placed_from place [] = []
-placed_from place (m ∷ ms) = placed place m ∷ placed_from (place + length (request_text m)) ms
+placed_from place (m ∷ ms) = placed_at place m ∷ placed_from (place + length (request_text m)) ms
 
 -- a reader that was fed these bytes from this place on, and answered no fault
 abbrev pub fed_at : ℕ → List ℕ → Bool → Fed

@@ -5,6 +5,7 @@ pub mod Division
 pub mod Framing
 pub mod Items
 pub mod Laws
+pub mod Limits
 pub mod Lines
 pub mod Names
 pub mod Readers

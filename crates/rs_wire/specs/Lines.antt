@@ -21,10 +21,10 @@ next_spot Fresh b = if b == 10 then None else (if b == 13 then Some Turned else 
 next_spot Turned b = if b == 10 then None else Some Within
 
 -- the number of bytes up to and with the first empty line, where there is one
-abbrev pub empty_line : Spot → List ℕ → Option ℕ
-empty_line spot [] = None
-empty_line spot (b ∷ bytes) =
-    option_map_or (λ next. option_map (λ n. n + 1) (empty_line next bytes)) (next_spot spot b) (Some 1)
+abbrev pub first_empty_line : Spot → List ℕ → Option ℕ
+first_empty_line spot [] = None
+first_empty_line spot (b ∷ bytes) =
+    option_map_or (λ next. option_map (λ n. n + 1) (first_empty_line next bytes)) (next_spot spot b) (Some 1)
 
 -- the spot after all the bytes, where they have no empty line
 abbrev pub spot_after : Spot → List ℕ → Option Spot

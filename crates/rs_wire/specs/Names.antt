@@ -8,9 +8,9 @@ unfoldable pub same_name : List ℕ → List ℕ → Bool
 same_name a b = bytes_eq (map to_ascii_lowercase a) (map to_ascii_lowercase b)
 
 -- the field has the name
-abbrev pub is_named : List ℕ → Field → Bool
-is_named name f = same_name f.name name
+abbrev pub is_field_named : List ℕ → Field → Bool
+is_field_named name f = same_name f.name name
 
 -- the field has the name and, without case, the value
 abbrev pub says : List ℕ → List ℕ → Field → Bool
-says name value f = is_named name f && same_name f.value value
+says name value f = is_field_named name f && same_name f.value value

@@ -10,11 +10,11 @@ use Rattle.rs_wire.specs.declared.reader.Opened.{Opened}
 use Rattle.rs_wire.specs.declared.reader.Stage.{Stage}
 use Rattle.rs_wire.specs.declared.reader.Stage.TheVariants.{Head, Body, Stopped}
 use Rattle.rs_wire.specs.declared.reader.RequestReader.{RequestReader}
-use Rattle.rs_wire.specs.declared.limits.TheConstants.{HEAD_LIMIT}
+use Rattle.rs_wire.specs.Limits.{max_head}
 use Rattle.rs_wire.specs.Lines.{is_break}
 use Rattle.rs_wire.specs.Sought.{IsSought}
-use Rattle.rs_wire.specs.BodyReaders.{IsPartAt, body_of}
-use Rattle.rs_wire.specs.Readings.{begun, reading, Fed, answer, step_of, fed_after}
+use Rattle.rs_wire.specs.BodyReaders.{IsPartAt, reader_body}
+use Rattle.rs_wire.specs.Readings.{begun, request_reading, Fed, next_of, step_of, fed_after}
 
 -- the reader is between messages or inside a head
 pub record StandsAtHead (search : Search) (taken : ℕ) (left : List ℕ) (fed : Fed) : Type 0 where
@@ -22,7 +22,7 @@ pub record StandsAtHead (search : Search) (taken : ℕ) (left : List ℕ) (fed :
   pub told : fed.told ≡ false
   pub place : fed.place ≡ taken
   pub bytes : fed.bytes ≡ left
-  pub sought : IsSought Before search (take HEAD_LIMIT left)
+  pub sought : IsSought Before search (take max_head left)
 
 -- the reader took a head and perhaps some of its body
 pub record StandsInBody (opened : Opened) (taken : ℕ) (left : List ℕ) (fed : Fed) : Type 0 where
@@ -31,7 +31,7 @@ pub record StandsInBody (opened : Opened) (taken : ℕ) (left : List ℕ) (fed :
   pub ahead : fed.place ≤ taken
   pub rest : left ≡ drop (taken - fed.place) fed.bytes
   pub some : list_all is_break fed.bytes ≡ false
-  pub same : (more : List ℕ) → reading fed.place (fed.bytes ++ more) ≡ begun opened.begun (body_of opened.reader taken (left ++ more))
+  pub same : (more : List ℕ) → request_reading fed.place (fed.bytes ++ more) ≡ begun opened.begun (reader_body opened.reader taken (left ++ more))
   pub fits : IsPartAt opened.reader.part left
 
 abbrev pub StandsAt : Stage → ℕ → List ℕ → Fed → Type 0
@@ -55,13 +55,13 @@ fed_count r = r.taken + length r.buffer
 
 -- what `next` leaves and returns: what is due, or nothing for want of memory
 abbrev pub Nexts : Fed → RequestReader → Result Step NextFault → Type 0
-Nexts fed new (Ok step) = (step_of (answer fed) ≡ Ok step) × Stands new (fed_after fed (answer fed))
-Nexts fed new (Err (Wire f)) = (step_of (answer fed) ≡ Err (Wire f)) × Stands new (fed_after fed (answer fed))
+Nexts fed new (Ok step) = (step_of (next_of fed) ≡ Ok step) × Stands new (fed_after fed (next_of fed))
+Nexts fed new (Err (Wire f)) = (step_of (next_of fed) ≡ Err (Wire f)) × Stands new (fed_after fed (next_of fed))
 Nexts fed new (Err NoMemory) = Stands new fed
 
 -- the same of one turn, which may only have come closer
-abbrev pub Turns : Fed → RequestReader → Result (Option Step) NextFault → Type 0
-Turns fed new (Ok None) = Stands new fed
-Turns fed new (Ok (Some step)) = (step_of (answer fed) ≡ Ok step) × Stands new (fed_after fed (answer fed))
-Turns fed new (Err (Wire f)) = (step_of (answer fed) ≡ Err (Wire f)) × Stands new (fed_after fed (answer fed))
-Turns fed new (Err NoMemory) = Stands new fed
+abbrev pub IsReaderTurn : Fed → RequestReader → Result (Option Step) NextFault → Type 0
+IsReaderTurn fed new (Ok None) = Stands new fed
+IsReaderTurn fed new (Ok (Some step)) = (step_of (next_of fed) ≡ Ok step) × Stands new (fed_after fed (next_of fed))
+IsReaderTurn fed new (Err (Wire f)) = (step_of (next_of fed) ≡ Err (Wire f)) × Stands new (fed_after fed (next_of fed))
+IsReaderTurn fed new (Err NoMemory) = Stands new fed

@@ -11,7 +11,7 @@ use Rattle.rs_wire.specs.declared.message.Step.{Step}
 use Rattle.rs_wire.specs.declared.message.Step.TheVariants.{More, Interim, Message}
 use Rattle.rs_wire.specs.declared.head.Begun.{Begun}
 use Rattle.rs_wire.specs.Lines.{is_break}
-use Rattle.rs_wire.specs.RequestHeads.{head_of}
+use Rattle.rs_wire.specs.RequestHeads.{head_at}
 use Rattle.rs_wire.specs.Bodies.{Body, unended, ended, spoiled, fault_at, first_part, body_from}
 
 -- what bytes after a message hold: no whole head, a head that is refused, or a head and what comes of its body
@@ -26,8 +26,8 @@ reading_by place bytes (Some (Err why)) = refused (fault_at why place)
 reading_by place bytes (Some (Ok h)) = begun h.0 (body_from (first_part h.0.framing) [] (place + h.1) (drop h.1 bytes))
 
 -- the same for the bytes from this place in the stream on
-unfoldable pub reading : ℕ → List ℕ → Reading
-reading place bytes = reading_by place bytes (head_of place bytes)
+unfoldable pub request_reading : ℕ → List ℕ → Reading
+request_reading place bytes = reading_by place bytes (head_at place bytes)
 
 -- what a reader was fed: the place of the first byte after the last message, the bytes from there on, whether the interim
 -- reply to them was asked for already, and the fault that was answered
@@ -65,8 +65,8 @@ answer_by (Some f) told reading = fault f
 answer_by None told reading = reading_answer told reading
 
 -- what is due to a reader that was fed this
-unfoldable pub answer : Fed → Answer
-answer fed = answer_by fed.fault fed.told (reading fed.place fed.bytes)
+unfoldable pub next_of : Fed → Answer
+next_of fed = answer_by fed.fault fed.told (request_reading fed.place fed.bytes)
 
 -- what `next` returns then
 abbrev pub step_of : Answer → Result Step NextFault

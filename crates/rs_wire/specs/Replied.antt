@@ -1,13 +1,13 @@
 -- What the laws of written replies speak of.
 use Rattle.std.specs.Prelude.{◌≡◌, ◌≤◌, Bool, [], length}
 use Rattle.rs_wire.specs.declared.message.ReplyMessage.{ReplyMessage}
-use Rattle.rs_wire.specs.declared.limits.TheConstants.{HEAD_LIMIT}
+use Rattle.rs_wire.specs.Limits.{max_head}
 use Rattle.rs_wire.specs.Writing.{IsWritableReply, reply_head_text}
 
 -- the reply can be written, and its head lies within the limit of a head
 pub record IsReadable (bodiless : Bool) (m : ReplyMessage) : Type 0 where
   pub writable : IsWritableReply bodiless m
-  pub short : length (reply_head_text m) ≤ HEAD_LIMIT
+  pub short : length (reply_head_text m) ≤ max_head
 
 -- the interim reply 100, which has no body
 pub record IsInterim (bodiless : Bool) (m : ReplyMessage) : Type 0 where

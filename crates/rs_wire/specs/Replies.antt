@@ -14,14 +14,16 @@ use Rattle.rs_wire.specs.declared.message.ReplyMessage.{ReplyMessage}
 use Rattle.rs_wire.specs.declared.reply.Chunk.{Chunk}
 use Rattle.rs_wire.specs.declared.reply.ReplyHead.{ReplyHead}
 use Rattle.rs_wire.specs.declared.search.Spot.TheVariants.{Before, Fresh}
-use Rattle.rs_wire.specs.declared.limits.TheConstants.{HEAD_LIMIT, CHUNK_LINE_LIMIT, TRAILER_LIMIT}
+use Rattle.rs_wire.specs.Limits.{max_head, max_chunk_line, max_trailer}
 use Rattle.rs_wire.specs.Bodies.{has_line_end}
 use Rattle.rs_wire.specs.ChunkTexts.{size_of}
 use Rattle.rs_wire.specs.Framing.{stated}
-use Rattle.rs_wire.specs.Lines.{empty_line, first_line, past_breaks}
+use Rattle.rs_wire.specs.Lines.{first_empty_line, first_line, past_breaks}
 use Rattle.rs_wire.specs.ReplyTexts.{response_head}
 use Rattle.rs_wire.specs.RequestHeads.{fields_of}
-use Rattle.rs_wire.specs.Runs.{Turned, done, on, run}
+use Rattle.std.specs.declared.ops.ControlFlow.{ControlFlow}
+use Rattle.std.specs.declared.ops.ControlFlow.TheVariants.{Continue, Break}
+use Rattle.rs_wire.specs.Runs.{run}
 use Rattle.rs_wire.specs.Writing.{has_no_body}
 
 -- ---- heads
@@ -35,30 +37,30 @@ pub record IsResponseIn (text : List ℕ) (room : List HeaderSpan) (spans : Resp
   pub whole : spans.len ≡ length text
 
 -- the head whose first byte is at this place, up to that end
-abbrev pub reply_head : ℕ → ℕ → ResponseHead → ReplyHead
-reply_head at end h = record { status = status_code h; fields = fields_of h.fields; place = at; end = end }
+abbrev pub reply_head_of : ℕ → ℕ → ResponseHead → ReplyHead
+reply_head_of at end h = record { status = status_code h; fields = fields_of h.fields; place = at; end = end }
 
 -- the same of a text
 unfoldable pub judged_reply : ℕ → ℕ → List ℕ → Result ReplyHead ℕ
-judged_reply at end text = option_map_or (λ h. Ok (reply_head at end h)) (response_head text) (Err at)
+judged_reply at end text = option_map_or (λ h. Ok (reply_head_of at end h)) (response_head text) (Err at)
 
 -- the place of the first byte from the place on that is no CR and no LF, where a head begins
 unfoldable pub first_byte : List ℕ → ℕ → ℕ
 first_byte bytes at = length bytes - length (past_breaks (drop at bytes))
 
--- where the first HEAD_LIMIT bytes from the place on have this first empty line
+-- where the first max_head bytes from the place on have this first empty line
 abbrev pub reply_ending : List ℕ → ℕ → Option ℕ → Result ReplyHead ℕ
-reply_ending bytes at None = if nat_lt (length (drop at bytes)) HEAD_LIMIT then Err (length bytes) else Err (first_byte bytes at)
+reply_ending bytes at None = if nat_lt (length (drop at bytes)) max_head then Err (length bytes) else Err (first_byte bytes at)
 reply_ending bytes at (Some n) = judged_reply (first_byte bytes at) (at + n) (past_breaks (take n (drop at bytes)))
 
 -- the head that begins at the place, or the place of its fault
 unfoldable pub reply_head_at : List ℕ → ℕ → Result ReplyHead ℕ
-reply_head_at bytes at = reply_ending bytes at (empty_line Before (take HEAD_LIMIT (drop at bytes)))
+reply_head_at bytes at = reply_ending bytes at (first_empty_line Before (take max_head (drop at bytes)))
 
 -- a head of a status from 100 to 199 is followed by another
-abbrev pub head_step : Result ReplyHead ℕ → Turned (Result ReplyHead ℕ) ℕ
-head_step (Ok h) = if h.status / 100 == 1 then on h.end else done (Ok h)
-head_step (Err place) = done (Err place)
+abbrev pub head_step : Result ReplyHead ℕ → ControlFlow (Result ReplyHead ℕ) ℕ
+head_step (Ok h) = if h.status / 100 == 1 then Continue h.end else Break (Ok h)
+head_step (Err place) = Break (Err place)
 
 -- the first head from the place on that no other follows
 unfoldable pub last_head : List ℕ → ℕ → Result ReplyHead ℕ
@@ -73,12 +75,12 @@ IsHeadIn bytes at (Err place) = ⊤
 
 -- the trailer from the place on has this first empty line
 abbrev pub trailer_ending : List ℕ → ℕ → Option ℕ → Result ℕ ℕ
-trailer_ending bytes at None = if nat_lt (length (drop at bytes)) TRAILER_LIMIT then Err (length bytes) else Err at
+trailer_ending bytes at None = if nat_lt (length (drop at bytes)) max_trailer then Err (length bytes) else Err at
 trailer_ending bytes at (Some n) = Ok (at + n)
 
 -- the end of the trailer
 unfoldable pub trailer_end : List ℕ → ℕ → Result ℕ ℕ
-trailer_end bytes at = trailer_ending bytes at (empty_line Fresh (take TRAILER_LIMIT (drop at bytes)))
+trailer_end bytes at = trailer_ending bytes at (first_empty_line Fresh (take max_trailer (drop at bytes)))
 
 -- the chunk of size 0
 abbrev pub last_chunk : ℕ → Result ℕ ℕ → Result Chunk ℕ
@@ -99,12 +101,12 @@ sized_chunk bytes at line (Some size) = if size == 0 then last_chunk line (trail
 
 -- a chunk whose line has so many bytes
 abbrev pub chunk_ending : List ℕ → ℕ → Option ℕ → Result Chunk ℕ
-chunk_ending bytes at None = if nat_lt (length (drop at bytes)) CHUNK_LINE_LIMIT then Err (length bytes) else Err at
+chunk_ending bytes at None = if nat_lt (length (drop at bytes)) max_chunk_line then Err (length bytes) else Err at
 chunk_ending bytes at (Some n) = sized_chunk bytes at (at + n) (size_of (take n (drop at bytes)))
 
 -- the chunk at the place, or the place of its fault
 unfoldable pub chunk_at : List ℕ → ℕ → Result Chunk ℕ
-chunk_at bytes at = chunk_ending bytes at (first_line (take CHUNK_LINE_LIMIT (drop at bytes)))
+chunk_at bytes at = chunk_ending bytes at (first_line (take max_chunk_line (drop at bytes)))
 
 -- a chunk begins and ends in the bytes
 abbrev pub IsChunkIn : List ℕ → ℕ → Result Chunk ℕ → Type 0
@@ -112,9 +114,9 @@ IsChunkIn bytes at (Ok c) = (at < c.line) × (c.line + c.size ≤ c.end) × (c.e
 IsChunkIn bytes at (Err place) = ⊤
 
 -- the body so far, and the place of the next chunk
-abbrev pub chunk_step : List ℕ → List ℕ → Result Chunk ℕ → Turned (Result (List ℕ × ℕ) ℕ) (List ℕ × ℕ)
-chunk_step bytes body (Ok c) = if c.size == 0 then done (Ok (body, c.end)) else on (body ++ take c.size (drop c.line bytes), c.end)
-chunk_step bytes body (Err place) = done (Err place)
+abbrev pub chunk_step : List ℕ → List ℕ → Result Chunk ℕ → ControlFlow (Result (List ℕ × ℕ) ℕ) (List ℕ × ℕ)
+chunk_step bytes body (Ok c) = if c.size == 0 then Break (Ok (body, c.end)) else Continue (body ++ take c.size (drop c.line bytes), c.end)
+chunk_step bytes body (Err place) = Break (Err place)
 
 -- the body of the chunks from the place on, and their end
 unfoldable pub chunks_from : List ℕ → List ℕ → ℕ → Result (List ℕ × ℕ) ℕ

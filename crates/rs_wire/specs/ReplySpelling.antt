@@ -6,8 +6,8 @@ use Rattle.rs_wire.specs.declared.framing.Framing.{Framing}
 use Rattle.rs_wire.specs.declared.framing.Framing.TheVariants.{Unstated, Length, Chunked}
 use Rattle.rs_wire.specs.declared.message.ReplyMessage.{ReplyMessage}
 use Rattle.rs_wire.specs.declared.search.Spot.TheVariants.{Before, Fresh}
-use Rattle.rs_wire.specs.declared.limits.TheConstants.{HEAD_LIMIT, CHUNK_LINE_LIMIT, TRAILER_LIMIT}
-use Rattle.rs_wire.specs.Lines.{is_break, empty_line}
+use Rattle.rs_wire.specs.Limits.{max_head, max_chunk_line, max_trailer}
+use Rattle.rs_wire.specs.Lines.{is_break, first_empty_line}
 use Rattle.rs_wire.specs.ChunkTexts.{size_of}
 use Rattle.rs_wire.specs.Framing.{stated}
 use Rattle.rs_wire.specs.RequestHeads.{fields_of}
@@ -22,8 +22,8 @@ pub record SpellsHead (h : ResponseHead) (text : List ℕ) : Type 0 where
   pub valid : IsResponseHead h
   pub first : h.blank ≡ []
   pub whole : text ≡ breaks ++ print_response h
-  pub ends : empty_line Before text ≡ Some (length text)
-  pub short : length text ≤ HEAD_LIMIT
+  pub ends : first_empty_line Before text ≡ Some (length text)
+  pub short : length text ≤ max_head
 
 -- heads of a status from 100 to 199, one after another
 pub data Interims : List ℕ → Type 0 where
@@ -33,11 +33,11 @@ pub data Interims : List ℕ → Type 0 where
 
 -- chunks, the last of size 0, and a trailer
 pub data ReplyChunks : List ℕ → List ℕ → Type 0 where
-  chunk : {body bytes : List ℕ} (line content later rest : List ℕ) → IsLine line → length line ≤ CHUNK_LINE_LIMIT
+  chunk : {body bytes : List ℕ} (line content later rest : List ℕ) → IsLine line → length line ≤ max_chunk_line
       → size_of line ≡ Some (length content) → 0 < length content → ReplyChunks later rest → body ≡ content ++ later
       → bytes ≡ line ++ (content ++ (13 ∷ 10 ∷ rest)) → ReplyChunks body bytes
-  last : {bytes : List ℕ} (line trailer : List ℕ) → IsLine line → length line ≤ CHUNK_LINE_LIMIT → size_of line ≡ Some 0
-      → empty_line Fresh trailer ≡ Some (length trailer) → length trailer ≤ TRAILER_LIMIT → bytes ≡ line ++ trailer → ReplyChunks [] bytes
+  last : {bytes : List ℕ} (line trailer : List ℕ) → IsLine line → length line ≤ max_chunk_line → size_of line ≡ Some 0
+      → first_empty_line Fresh trailer ≡ Some (length trailer) → length trailer ≤ max_trailer → bytes ≡ line ++ trailer → ReplyChunks [] bytes
 
 -- a body by its framing
 abbrev pub SpellsReplyBody : Framing → List ℕ → List ℕ → Type 0

@@ -11,10 +11,10 @@ use Rattle.rs_wire.specs.declared.fault.WireWhy.{WireWhy}
 use Rattle.rs_wire.specs.declared.fault.WireWhy.TheVariants.{BadHead, HeadLong, TargetLong}
 use Rattle.rs_wire.specs.declared.framing.Framing.{Framing}
 use Rattle.rs_wire.specs.declared.head.Begun.{Begun}
-use Rattle.rs_wire.specs.declared.limits.TheConstants.{FIELD_LIMIT, HEAD_LIMIT}
+use Rattle.rs_wire.specs.Limits.{max_fields, max_head}
 use Rattle.rs_wire.specs.declared.search.Spot.TheVariants.{Before}
-use Rattle.rs_wire.specs.Lines.{empty_line, past_breaks}
-use Rattle.rs_wire.specs.Framing.{head_framing, expects_interim, closes}
+use Rattle.rs_wire.specs.Lines.{first_empty_line, past_breaks}
+use Rattle.rs_wire.specs.Framing.{head_framing, expects_interim, ends_connection}
 use Rattle.rs_wire.specs.RequestTexts.{request_head}
 
 -- a line's name, and its value without the white space round it
@@ -37,7 +37,7 @@ begun_at place method target minor fields framing = record {
     minor = minor;
     fields = fields;
     body = [];
-    close = closes minor fields;
+    close = ends_connection minor fields;
     place = place;
   };
   framing = framing;
@@ -52,12 +52,12 @@ begun_by place method target minor fields (Err why) = Err why
 -- the first fault of a head, or the request that begins with it
 unfoldable pub judged_head : ℕ → RequestHead → Result Begun WireWhy
 judged_head place h =
-    if nat_lt FIELD_LIMIT (length h.fields) then Err HeadLong
+    if nat_lt max_fields (length h.fields) then Err HeadLong
     else (let fields = fields_of h.fields in begun_by place h.method h.target h.minor fields (head_framing h.minor (length h.target) fields))
 
 -- the same of a text
-unfoldable pub judged : ℕ → List ℕ → Result Begun WireWhy
-judged place text = option_map_or (judged_head place) (request_head text) (Err BadHead)
+unfoldable pub judged_request : ℕ → List ℕ → Result Begun WireWhy
+judged_request place text = option_map_or (judged_head place) (request_head text) (Err BadHead)
 
 -- the spans are those of the head that the whole text is
 pub record IsRequestIn (text : List ℕ) (room : List HeaderSpan) (spans : RequestSpans) : Type 0 where
@@ -76,15 +76,15 @@ abbrev pub with_length : ℕ → Result Begun WireWhy → Result (Begun × ℕ) 
 with_length n (Ok b) = Ok (b, n)
 with_length n (Err why) = Err why
 
--- what bytes hold of a head, where their first HEAD_LIMIT have this first empty line: nothing yet, a fault or a head
+-- what bytes hold of a head, where their first max_head have this first empty line: nothing yet, a fault or a head
 abbrev pub head_ending : ℕ → List ℕ → Option ℕ → Option (Result (Begun × ℕ) WireWhy)
 head_ending place bytes None =
-    if nat_lt (length bytes) HEAD_LIMIT then None else Some (Err (long_head (take HEAD_LIMIT bytes)))
-head_ending place bytes (Some n) = Some (with_length n (judged place (past_breaks (take n bytes))))
+    if nat_lt (length bytes) max_head then None else Some (Err (long_head (take max_head bytes)))
+head_ending place bytes (Some n) = Some (with_length n (judged_request place (past_breaks (take n bytes))))
 
 -- what bytes hold of a head that begins at this place in the stream
-unfoldable pub head_of : ℕ → List ℕ → Option (Result (Begun × ℕ) WireWhy)
-head_of place bytes = head_ending place bytes (empty_line Before (take HEAD_LIMIT bytes))
+unfoldable pub head_at : ℕ → List ℕ → Option (Result (Begun × ℕ) WireWhy)
+head_at place bytes = head_ending place bytes (first_empty_line Before (take max_head bytes))
 
 -- a head takes bytes that there are
 abbrev pub IsHeadWithin : List ℕ → Option (Result (Begun × ℕ) WireWhy) → Type 0

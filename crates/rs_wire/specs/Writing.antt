@@ -8,8 +8,8 @@ use Rattle.rs_wire.specs.declared.framing.Framing.{Framing}
 use Rattle.rs_wire.specs.declared.framing.Framing.TheVariants.{Unstated, Length, Chunked}
 use Rattle.rs_wire.specs.declared.message.RequestMessage.{RequestMessage}
 use Rattle.rs_wire.specs.declared.message.ReplyMessage.{ReplyMessage}
-use Rattle.rs_wire.specs.declared.limits.TheConstants.{FIELD_LIMIT, HEAD_LIMIT}
-use Rattle.rs_wire.specs.Framing.{head_framing, closes, is_coding, stated}
+use Rattle.rs_wire.specs.Limits.{max_fields, max_head}
+use Rattle.rs_wire.specs.Framing.{head_framing, ends_connection, is_coding, stated}
 
 -- name ":" SP value CR LF
 abbrev pub field_text : Field → List ℕ
@@ -49,10 +49,10 @@ pub record IsWritable (m : RequestMessage) : Type 0 where
   pub minor : m.minor ≡ 1
   pub head : IsRequestHead (head_for m)
   pub trimmed : All (λ f. trim_ows f.value ≡ f.value) m.fields
-  pub few : length m.fields ≤ FIELD_LIMIT
+  pub few : length m.fields ≤ max_fields
   pub framed : head_framing m.minor (length m.target) m.fields ≡ Ok (Length (length m.body))
-  pub close : m.close ≡ closes m.minor m.fields
-  pub short : length (print_request (head_for m)) ≤ HEAD_LIMIT
+  pub close : m.close ≡ ends_connection m.minor m.fields
+  pub short : length (print_request (head_for m)) ≤ max_head
 
 -- ---- replies
 

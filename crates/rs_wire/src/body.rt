@@ -3,14 +3,15 @@
 ghost use Rattle.std.specs.Prelude.{◌≡◌, ◌+◌, ◌^◌, ◌<◌, ◌≤◌, ◌==◌, None, min, [], length, take, IfOk, IfSome, OnErr};
 ghost use Rattle.rs_wire.specs.Bodies.{has_line_end, first_part, next_part};
 ghost use Rattle.rs_wire.specs.ChunkTexts.{size_of};
-ghost use Rattle.rs_wire.specs.BodyReaders.{Takes, IsPartAt, IsMove, IsLineSought, IsSameBody};
+ghost use Rattle.rs_wire.specs.BodyReaders.{IsMoveWithin, IsPartAt, IsMove, IsLineSought, IsSameBody};
+ghost use Rattle.rs_wire.specs.Limits.{max_trailer};
 ghost use Rattle.rs_wire.specs.Lines.{first_line};
 ghost use Rattle.rs_wire.specs.Sought.{IsSought};
 
 use crate::chunk::size_of;
 use crate::fault::{WireFault, WireWhy};
 use crate::framing::Framing;
-use crate::limits::{BODY_LIMIT, CHUNK_LINE_LIMIT, TRAILER_LIMIT};
+use crate::limits::{MAX_BODY, MAX_CHUNK_LINE, MAX_TRAILER};
 use crate::search::{Search, Spot, window};
 use rs_path::NoMemory;
 use std::alloc::Global;
@@ -99,7 +100,7 @@ impl BodyReader {
 
     /// Takes what the bytes hold of the body. The first has the place `at`.
     pub(crate) fn advance(&mut self, rest: &[u8], at: u64) -> Result<Move, NoMemory>
-        ensures within { IfOk result (Takes rest.now) }
+        ensures within { IfOk result (IsMoveWithin rest.now) }
         ensures ok { IsPartAt self.old.part rest.now → at + length rest.now < 2 ^ 64
             → IfOk result (IsMove self.old self.new at rest.now) }
         ensures err { OnErr result (IsSameBody self.old self.new) }
@@ -115,7 +116,7 @@ impl BodyReader {
     /// Takes bytes of a body of known length.
     fn length_part(&mut self, left: u64, rest: &[u8], at: u64) -> Result<Move, NoMemory>
         requires { self.old.part ≡ Part.Length left }
-        ensures within { IfOk result (Takes rest.now) }
+        ensures within { IfOk result (IsMoveWithin rest.now) }
         ensures ok { IfOk result (IsMove self.old self.new at rest.now) }
         ensures err { OnErr result (IsSameBody self.old self.new) }
     {
@@ -131,10 +132,10 @@ impl BodyReader {
     /// Takes a chunk's line.
     fn line_part(&mut self, sought: usize, rest: &[u8], at: u64) -> Move
         requires { self.old.part ≡ Part.Line sought }
-        ensures within { Takes rest.now result }
+        ensures within { IsMoveWithin rest.now result }
         ensures ok { IsLineSought sought rest.now → IsMove self.old self.new at rest.now result }
     {
-        let window = window(rest, CHUNK_LINE_LIMIT);
+        let window = window(rest, MAX_CHUNK_LINE);
         match first_line(window, sought) {
             Some(count) => match next_part(self.body.len(), &rest[..count]) {
                 Ok(part) => {
@@ -143,7 +144,7 @@ impl BodyReader {
                 }
                 Err(why) => Move::Fault(WireFault { why, place: at }),
             },
-            None if rest.len() < CHUNK_LINE_LIMIT => {
+            None if rest.len() < MAX_CHUNK_LINE => {
                 self.part = Part::Line(rest.len());
                 Move::Wait(0)
             }
@@ -157,7 +158,7 @@ impl BodyReader {
     /// Takes bytes of a chunk, and the line end after them.
     fn data_part(&mut self, left: u64, rest: &[u8], at: u64) -> Result<Move, NoMemory>
         requires { self.old.part ≡ Part.Data left }
-        ensures within { IfOk result (Takes rest.now) }
+        ensures within { IfOk result (IsMoveWithin rest.now) }
         ensures ok { at + length rest.now < 2 ^ 64 → IfOk result (IsMove self.old self.new at rest.now) }
         ensures err { OnErr result (IsSameBody self.old self.new) }
     {
@@ -184,15 +185,15 @@ impl BodyReader {
     /// Looks for the end of the trailer.
     fn trailer_part(&mut self, search: Search, rest: &[u8], at: u64) -> Move
         requires { self.old.part ≡ Part.Trailer search }
-        ensures within { Takes rest.now result }
-        ensures ok { IsSought Spot.Fresh search (take TRAILER_LIMIT rest.now)
+        ensures within { IsMoveWithin rest.now result }
+        ensures ok { IsSought Spot.Fresh search (take max_trailer rest.now)
             → IsMove self.old self.new at rest.now result }
     {
         let mut search = search;
-        let window = window(rest, TRAILER_LIMIT);
+        let window = window(rest, MAX_TRAILER);
         match search.seek(window) {
             Some(count) => Move::End(count),
-            None if rest.len() < TRAILER_LIMIT => {
+            None if rest.len() < MAX_TRAILER => {
                 self.part = Part::Trailer(search);
                 Move::Wait(0)
             }
@@ -211,7 +212,7 @@ fn next_part(so_far: usize, line: &[u8]) -> Result<Part, WireWhy>
     let Some(size) = size_of(line) else {
         return Err(WireWhy::BadChunk);
     };
-    if size > BODY_LIMIT || so_far as u64 > BODY_LIMIT - size {
+    if size > MAX_BODY as u64 || so_far as u64 > MAX_BODY as u64 - size {
         return Err(WireWhy::BodyLong);
     }
     if size == 0 {

@@ -4,7 +4,7 @@ ghost use Rattle.std.specs.Prelude.{◌≡◌, ◌≤◌, ◌+◌, ◌-◌, ℕ,
 ghost use Rattle.rs_wire.specs.declared.message.RequestMessage.{RequestMessage};
 ghost use Rattle.rs_wire.specs.declared.message.Step.TheVariants.{Message};
 ghost use Rattle.rs_wire.specs.Division.{message_at, Divides, fed_next};
-ghost use Rattle.rs_wire.specs.Readings.{Fed, answer, step_of, fed_after};
+ghost use Rattle.rs_wire.specs.Readings.{Fed, next_of, step_of, fed_after};
 
 /// A stream of bytes has one division into requests, up to a rest that begins with none, and more bytes change no message of
 /// it. What `RequestReader::next` gives is the next message of this division.
@@ -20,6 +20,6 @@ pub fn one_division()
     ensures push { (ms : List RequestMessage) (m : RequestMessage) (place : ℕ) (bytes : List ℕ) (end : ℕ) (rest : List ℕ) (next : ℕ)
         → Divides place bytes ms end rest → message_at end rest ≡ Some (m, next)
         → Divides place bytes (ms ++ m ∷ []) next (drop (next - end) rest) }
-    ensures next { (fed : Fed) (m : RequestMessage) → step_of (answer fed) ≡ Ok (Message m)
-        → (next : ℕ) × (message_at fed.place fed.bytes ≡ Some (m, next)) × (fed_after fed (answer fed) ≡ fed_next fed next) }
+    ensures next { (fed : Fed) (m : RequestMessage) → step_of (next_of fed) ≡ Ok (Message m)
+        → (next : ℕ) × (message_at fed.place fed.bytes ≡ Some (m, next)) × (fed_after fed (next_of fed) ≡ fed_next fed next) }
 {}

@@ -4,12 +4,12 @@ ghost use Rattle.std.specs.Prelude.{◌≡◌, true, false, Option};
 ghost use Rattle.std.specs.Char.{is_ascii_digit};
 ghost use Rattle.std.specs.Str.Parse.{digits_value};
 ghost use Rattle.std.specs.List.{find, list_all, list_any};
-ghost use Rattle.rs_wire.specs.Framing.{is_length, same_length, has_two_lengths, has_bad_length, is_chunked, number_of, is_length_field, differs_from, stated, framed, request_framing, has_its_host, head_framing, has_body, expects_interim, closes, says_close};
+ghost use Rattle.rs_wire.specs.Framing.{is_length, same_length, has_two_lengths, has_bad_length, is_chunked, length_framing, is_length_field, differs_from, stated, framed, request_framing, has_its_host, head_framing, has_body, expects_interim, ends_connection, says_close};
 
 use crate::fault::WireWhy;
 use crate::field::Field;
 use crate::item::lists;
-use crate::limits::{BODY_LIMIT, TARGET_LIMIT};
+use crate::limits::{MAX_BODY, MAX_LENGTH_DIGITS, MAX_TARGET};
 use crate::name::{count_named, first_named, has_named, some_says};
 
 /// How the end of a body is known.
@@ -23,14 +23,12 @@ pub(crate) enum Framing {
     Chunked,
 }
 
-const MAX_DIGITS: usize = 18;
-
 /// Whether a text is 1 to 18 digits.
 #[tactic(auto, unfolding(crate::specs::Framing::is_length))]
 fn is_length(text: &[u8]) -> bool
     ensures { result ≡ is_length text.now }
 {
-    if text.is_empty() || text.len() > MAX_DIGITS {
+    if text.is_empty() || text.len() > MAX_LENGTH_DIGITS {
         return false;
     }
     are_digits(text)
@@ -97,7 +95,7 @@ fn has_bad_length(fields: &[Field]) -> bool
 /// The framing by the first Content-Length.
 fn length_of(fields: &[Field]) -> Framing
     requires { has_bad_length fields.now ≡ false }
-    ensures { result ≡ number_of (find is_length_field fields.now) }
+    ensures { result ≡ length_framing (find is_length_field fields.now) }
 {
     match first_named(fields, b"content-length") {
         Some(first) => Framing::Length(number(first.value.as_slice())),
@@ -146,7 +144,7 @@ fn request_framing(minor: u8, fields: &[Field]) -> Result<Framing, WireWhy>
         return Err(WireWhy::Coding);
     }
     match stated(fields) {
-        Ok(Framing::Length(n)) if n > BODY_LIMIT => Err(WireWhy::BodyLong),
+        Ok(Framing::Length(n)) if n > MAX_BODY as u64 => Err(WireWhy::BodyLong),
         Ok(Framing::Unstated) => Ok(Framing::Length(0)),
         other => other,
     }
@@ -172,7 +170,7 @@ pub(crate) fn head_framing(
     if !has_its_host(minor, fields) {
         return Err(WireWhy::BadHead);
     }
-    if target_length > TARGET_LIMIT {
+    if target_length > MAX_TARGET {
         return Err(WireWhy::TargetLong);
     }
     request_framing(minor, fields)
@@ -200,9 +198,9 @@ pub(crate) fn expects_interim(minor: u8, fields: &[Field], framing: Framing) -> 
 }
 
 /// Whether the connection ends after the reply.
-#[tactic(auto, unfolding(crate::specs::Framing::closes))]
-pub(crate) fn closes(minor: u8, fields: &[Field]) -> bool
-    ensures { result ≡ closes minor fields.now }
+#[tactic(auto, unfolding(crate::specs::Framing::ends_connection))]
+pub(crate) fn ends_connection(minor: u8, fields: &[Field]) -> bool
+    ensures { result ≡ ends_connection minor fields.now }
 {
     minor == 0 || lists_close(fields)
 }

@@ -3,15 +3,16 @@
 ghost use Rattle.std.specs.Prelude.{◌≡◌, ◌+◌, ◌*◌, ◌<◌, ◌==◌, length, map, take, None, IfOk, IfNone, IfSome, All};
 ghost use Rattle.std.specs.List.{list_all, list_any};
 ghost use Rattle.httparse.specs.Spans.{IsWithin, IsHeaderWithin, header_bytes, span_bytes};
+ghost use Rattle.rs_wire.specs.Limits.{max_head};
 ghost use Rattle.rs_wire.specs.Lines.{is_break, past_breaks};
 ghost use Rattle.rs_wire.specs.Sought.{IsSought};
 ghost use Rattle.rs_wire.specs.RequestTexts.{request_head};
-ghost use Rattle.rs_wire.specs.RequestHeads.{judged, pair_fields, begun_at, IsRequestIn, long_head, head_of, IsHeadWithin};
+ghost use Rattle.rs_wire.specs.RequestHeads.{judged_request, pair_fields, begun_at, IsRequestIn, long_head, head_at, IsHeadWithin};
 
 use crate::fault::WireWhy;
 use crate::field::{Field, Fields};
-use crate::framing::{Framing, closes, expects_interim, head_framing};
-use crate::limits::{FIELD_LIMIT, HEAD_LIMIT};
+use crate::framing::{Framing, ends_connection, expects_interim, head_framing};
+use crate::limits::{MAX_FIELDS, MAX_HEAD};
 use crate::message::RequestMessage;
 use crate::search::{Search, Spot, window};
 use httparse::Status;
@@ -132,15 +133,15 @@ pub(crate) fn head_at(
     bytes: &[u8],
     place: u64,
 ) -> Result<Option<Result<(Begun, usize), WireWhy>>, NoMemory>
-    ensures found { IsSought Spot.Before search.old (take HEAD_LIMIT bytes.now)
-        → IfOk result (λ head. head ≡ head_of place bytes.now) }
-    ensures kept { IsSought Spot.Before search.old (take HEAD_LIMIT bytes.now)
-        → IsSought Spot.Before search.new (take HEAD_LIMIT bytes.now) }
+    ensures found { IsSought Spot.Before search.old (take max_head bytes.now)
+        → IfOk result (λ head. head ≡ head_at place bytes.now) }
+    ensures kept { IsSought Spot.Before search.old (take max_head bytes.now)
+        → IsSought Spot.Before search.new (take max_head bytes.now) }
     ensures within { IfOk result (IsHeadWithin bytes.now) }
 {
-    let window = window(bytes, HEAD_LIMIT);
+    let window = window(bytes, MAX_HEAD);
     let Some(count) = search.seek(window) else {
-        if bytes.len() < HEAD_LIMIT {
+        if bytes.len() < MAX_HEAD {
             return Ok(None);
         }
         return Ok(Some(Err(long_head(window))));
@@ -158,7 +159,7 @@ pub(crate) fn read_head(
     place: u64,
 ) -> Result<Result<Begun, WireWhy>, NoMemory>
     requires { past_breaks text.now ≡ text.now }
-    ensures { IfOk result (λ head. head ≡ judged place text.now) }
+    ensures { IfOk result (λ head. head ≡ judged_request place text.now) }
 {
     let mut room = vec![in alloc; EMPTY_HEADER_SPAN; text.len() / FIELD_MIN]?;
     let Some(spans) = find_parts(text, &mut room) else {
@@ -176,9 +177,9 @@ fn judge(
     place: u64,
 ) -> Result<Result<Begun, WireWhy>, NoMemory>
     requires { IsRequestIn text.now room.now spans.now }
-    ensures { IfOk result (λ head. head ≡ judged place text.now) }
+    ensures { IfOk result (λ head. head ≡ judged_request place text.now) }
 {
-    if spans.headers > FIELD_LIMIT {
+    if spans.headers > MAX_FIELDS {
         return Ok(Err(WireWhy::HeadLong));
     }
     let fields = fields_at(alloc, text, &room[..spans.headers])?;
@@ -205,7 +206,7 @@ fn begin(
     requires path { IsWithin (length text.now) spans.now.path }
     ensures { IfOk result (λ b. b ≡ begun_at place (span_bytes text.now spans.now.method) (span_bytes text.now spans.now.path) spans.now.version fields framing) }
 {
-    let close = closes(spans.version, fields.as_slice());
+    let close = ends_connection(spans.version, fields.as_slice());
     let expects = expects_interim(spans.version, fields.as_slice(), framing);
     let message = RequestMessage {
         method: bytes_of(alloc, spans.method.of(text))?,

@@ -2,7 +2,7 @@
 
 ghost use Rattle.std.specs.Prelude.{◌≡◌, ◌+◌, ◌^◌, ◌<◌, ◌==◌, length, reverse, position, IfSome};
 ghost use Rattle.httparse.specs.Grammar.{skip_ows, trim_ows};
-ghost use Rattle.rs_wire.specs.Items.{is_item, lists};
+ghost use Rattle.rs_wire.specs.Items.{is_list_item, lists};
 
 use crate::name::same_name;
 use httparse::is_space_or_tab;
@@ -35,8 +35,8 @@ fn trim_end(mut bytes: &[u8]) -> &[u8]
 
 /// Whether a piece is the item, without the blanks round it and without case.
 #[tactic(auto, unfolding(httparse::specs::Grammar::trim_ows))]
-fn is_item(item: &[u8], piece: &[u8]) -> bool
-    ensures { result ≡ is_item item.now piece.now }
+fn is_list_item(item: &[u8], piece: &[u8]) -> bool
+    ensures { result ≡ is_list_item item.now piece.now }
 {
     same_name(trim_end(trim_start(piece)), item)
 }
@@ -56,11 +56,11 @@ pub(crate) fn lists(item: &[u8], value: &[u8]) -> bool
 {
     let mut rest = value;
     while let Some(comma) = first_comma(rest) {
-        if is_item(item, &rest[..comma]) {
+        if is_list_item(item, &rest[..comma]) {
             return true;
         }
         let (_, after) = rest.split_at(comma + 1);
         rest = after;
     }
-    is_item(item, rest)
+    is_list_item(item, rest)
 }

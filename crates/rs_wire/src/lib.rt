@@ -17,22 +17,20 @@ mod reader;
 mod replied;
 mod reply;
 mod reply_spelling;
-#[cfg(test)]
-mod reply_tests;
 mod search;
 mod spelling;
 mod taken;
-#[cfg(test)]
-mod tests;
 mod unfinished;
 mod write;
-#[cfg(test)]
-mod write_tests;
 mod written;
 
 pub use division::one_division;
 pub use fault::{NextFault, ReplyFault, WireFault, WireWhy};
 pub use field::{Field, Fields};
+pub use limits::{
+    MAX_BODY, MAX_CHUNK_LINE, MAX_FIELDS, MAX_HEAD, MAX_LENGTH_DIGITS, MAX_MESSAGE, MAX_TARGET,
+    MAX_TRAILER, limit_laws,
+};
 pub use message::{ReplyMessage, RequestMessage, Step};
 pub use reader::RequestReader;
 pub use replied::written_replies;

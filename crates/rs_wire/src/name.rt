@@ -2,7 +2,7 @@
 
 ghost use Rattle.std.specs.Prelude.{◌≡◌, count_by, option_copied};
 ghost use Rattle.std.specs.List.{find, list_any};
-ghost use Rattle.rs_wire.specs.Names.{same_name, is_named, says};
+ghost use Rattle.rs_wire.specs.Names.{same_name, is_field_named, says};
 
 use crate::field::Field;
 
@@ -17,7 +17,7 @@ pub(crate) fn same_name(a: &[u8], b: &[u8]) -> bool
 impl Field {
     /// Whether the field has this name.
     pub(crate) fn is_named(&self, name: &[u8]) -> bool
-        ensures { result ≡ is_named name.now self.now }
+        ensures { result ≡ is_field_named name.now self.now }
     {
         same_name(self.name.as_slice(), name)
     }
@@ -32,14 +32,14 @@ impl Field {
 
 /// How many of the fields have this name.
 pub(crate) fn count_named(fields: &[Field], name: &[u8]) -> usize
-    ensures { result ≡ count_by (is_named name.now) fields.now }
+    ensures { result ≡ count_by (is_field_named name.now) fields.now }
 {
     fields.iter().filter(|f| f.is_named(name)).count()
 }
 
 /// Whether a field has this name.
 pub(crate) fn has_named(fields: &[Field], name: &[u8]) -> bool
-    ensures { result ≡ list_any (is_named name.now) fields.now }
+    ensures { result ≡ list_any (is_field_named name.now) fields.now }
 {
     fields.iter().any(|f| f.is_named(name))
 }
@@ -53,7 +53,7 @@ pub(crate) fn some_says(fields: &[Field], name: &[u8], value: &[u8]) -> bool
 
 /// The first field of this name.
 pub(crate) fn first_named<'f>(fields: &'f [Field], name: &[u8]) -> Option<&'f Field>
-    ensures { option_copied result ≡ find (is_named name.now) fields.now }
+    ensures { option_copied result ≡ find (is_field_named name.now) fields.now }
 {
     for field in fields {
         if field.is_named(name) {

@@ -55,7 +55,7 @@ fn start() -> Stage
 
 impl RequestReader {
     ghost use Rattle.rs_wire.specs.Readings.{Fed, unfed, fed_with, finish_of};
-    ghost use Rattle.rs_wire.specs.Readers.{Stands, IsFed, StandsAtHead, StandsInBody, fed_count, Nexts, Turns};
+    ghost use Rattle.rs_wire.specs.Readers.{Stands, IsFed, StandsAtHead, StandsInBody, fed_count, Nexts, IsReaderTurn};
 
     /// A reader that was fed nothing.
     #[tactic(auto, unfolding(crate::specs::Readers::fed_count, crate::specs::Readers::Stands))]
@@ -127,7 +127,7 @@ impl RequestReader {
     #[tactic(auto, unfolding(crate::specs::Readers::fed_count))]
     fn turn(&mut self) -> Result<Option<Step>, NextFault>
         ensures shorter { result ≡ Ok None → length self.new.buffer < length self.old.buffer }
-        ensures answer { (fed : Fed) → Stands self.old fed → Turns fed self.new result }
+        ensures answer { (fed : Fed) → Stands self.old fed → IsReaderTurn fed self.new result }
         ensures count { fed_count self.old < 2 ^ 64 → fed_count self.new ≡ fed_count self.old }
     {
         match mem::replace(&mut self.stage, start()) {
@@ -161,7 +161,7 @@ impl RequestReader {
     #[tactic(auto, unfolding(crate::specs::Readers::fed_count))]
     fn head_turn(&mut self, search: Search) -> Result<Option<Step>, NextFault>
         ensures shorter { result ≡ Ok None → length self.new.buffer < length self.old.buffer }
-        ensures answer { (fed : Fed) → IsFed (Stage.Head search) self.old.taken self.old.buffer fed → Turns fed self.new result }
+        ensures answer { (fed : Fed) → IsFed (Stage.Head search) self.old.taken self.old.buffer fed → IsReaderTurn fed self.new result }
         ensures count { fed_count self.old < 2 ^ 64 → fed_count self.new ≡ fed_count self.old }
     {
         let mut search = search;
@@ -191,7 +191,7 @@ impl RequestReader {
     #[tactic(auto, unfolding(crate::specs::Readers::fed_count))]
     fn body_turn(&mut self, opened: Opened) -> Result<Option<Step>, NextFault>
         ensures shorter { result ≡ Ok None → length self.new.buffer < length self.old.buffer }
-        ensures answer { (fed : Fed) → IsFed (Stage.Body opened) self.old.taken self.old.buffer fed → Turns fed self.new result }
+        ensures answer { (fed : Fed) → IsFed (Stage.Body opened) self.old.taken self.old.buffer fed → IsReaderTurn fed self.new result }
         ensures count { fed_count self.old < 2 ^ 64 → fed_count self.new ≡ fed_count self.old }
     {
         let mut opened = opened;

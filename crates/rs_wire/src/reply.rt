@@ -12,7 +12,7 @@ use crate::fault::ReplyFault;
 use crate::field::Fields;
 use crate::framing::{Framing, stated};
 use crate::head::{FIELD_MIN, bytes_of, fields_at, past_breaks};
-use crate::limits::{CHUNK_LINE_LIMIT, HEAD_LIMIT, TRAILER_LIMIT};
+use crate::limits::{MAX_CHUNK_LINE, MAX_HEAD, MAX_TRAILER};
 use crate::message::ReplyMessage;
 use crate::search::{Search, Spot, window};
 use httparse::Status;
@@ -179,10 +179,10 @@ fn head_at(alloc: Global, bytes: &[u8], at: usize) -> Result<Result<ReplyHead, u
 {
     let place = first_byte(bytes, at);
     let rest = &bytes[at..];
-    let window = window(rest, HEAD_LIMIT);
+    let window = window(rest, MAX_HEAD);
     let mut search = Search::from(Spot::Before);
     let Some(count) = search.seek(window) else {
-        if rest.len() < HEAD_LIMIT {
+        if rest.len() < MAX_HEAD {
             return Ok(Err(bytes.len()));
         }
         return Ok(Err(place));
@@ -216,11 +216,11 @@ fn trailer_end(bytes: &[u8], at: usize) -> Result<usize, usize>
     ensures within { IfOk result (λ end. (at ≤ end) × (end ≤ length bytes.now)) }
 {
     let rest = &bytes[at..];
-    let window = window(rest, TRAILER_LIMIT);
+    let window = window(rest, MAX_TRAILER);
     let mut search = Search::from(Spot::Fresh);
     match search.seek(window) {
         Some(count) => Ok(at + count),
-        None if rest.len() < TRAILER_LIMIT => Err(bytes.len()),
+        None if rest.len() < MAX_TRAILER => Err(bytes.len()),
         None => Err(at),
     }
 }
@@ -256,8 +256,8 @@ fn chunk_at(bytes: &[u8], at: usize) -> Result<Chunk, usize>
     ensures within { IsChunkIn bytes.now at result }
 {
     let rest = &bytes[at..];
-    let Some(count) = first_line(window(rest, CHUNK_LINE_LIMIT), 0) else {
-        if rest.len() < CHUNK_LINE_LIMIT {
+    let Some(count) = first_line(window(rest, MAX_CHUNK_LINE), 0) else {
+        if rest.len() < MAX_CHUNK_LINE {
             return Err(bytes.len());
         }
         return Err(at);

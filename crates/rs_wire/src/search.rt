@@ -1,7 +1,7 @@
 //! The search for the first empty line, which ends a head and a trailer.
 
 ghost use Rattle.std.specs.Prelude.{◌≡◌, ◌<◌, ◌≤◌, length, take, IfSome};
-ghost use Rattle.rs_wire.specs.Lines.{next_spot, empty_line};
+ghost use Rattle.rs_wire.specs.Lines.{next_spot, first_empty_line};
 
 /// Where in a line the search is.
 #[derive(Clone, Copy, Debug, PartialEq, Eq)]
@@ -62,7 +62,7 @@ impl Search {
     /// Goes on with the search: the number of bytes up to and with the first empty line.
     pub(crate) fn seek(&mut self, bytes: &[u8]) -> Option<usize>
         ensures within { IfSome result (λ count. (0 < count) × (count ≤ length bytes.now)) }
-        ensures found { (start : Spot) → IsSought start self.old bytes.now → result ≡ empty_line start bytes.now }
+        ensures found { (start : Spot) → IsSought start self.old bytes.now → result ≡ first_empty_line start bytes.now }
         ensures kept { (start : Spot) → IsSought start self.old bytes.now → IsSought start self.new bytes.now }
     {
         let mut spot = self.spot;

@@ -1,11 +1,11 @@
 use Rattle.std.proofs.Common.{sym, subst}
-use Rattle.rs_folder.specs.FolderReadings.{Reads}
+use Rattle.rs_folder.specs.FolderReadings.{ReadsFolder}
 use Rattle.rs_folder.proofs.ReadingLemmas.{folder_reading-value, folder_reading-none}
 use Rattle.rs_folder.proofs.reading.read_folder.Goals as goal
 
 pub returns-in-Ok : goal.returns-in-Ok
 returns-in-Ok c = record {
-  read = subst (Reads c.read_value.result) (sym (folder_reading-value c.args.bytes.now _ c.in-Ok.ensures.ok.0 c.in-Ok.ensures.ok.1)) c.read_value.ensures;
+  read = subst (ReadsFolder c.read_value.result) (sym (folder_reading-value c.args.bytes.now _ c.in-Ok.ensures.ok.0 c.in-Ok.ensures.ok.1)) c.read_value.ensures;
 }
 
 pub returns-in_default : goal.returns-in_default

@@ -1,5 +1,5 @@
 use Rattle.std.proofs.Common.{◌≡◌, ℕ, ◌≤◌, List, length, take, drop, Option, None, refl, sym, ap, ◌∙◌, subst}
-use Rattle.rs_wire.specs.declared.limits.TheConstants.{CHUNK_LINE_LIMIT}
+use Rattle.rs_wire.specs.Limits.{max_chunk_line}
 use Rattle.rs_wire.specs.Lines.{first_line}
 use Rattle.rs_wire.specs.BodyReaders.{IsLineSought}
 use Rattle.rs_wire.specs.Bodies.{next_part}
@@ -8,8 +8,8 @@ use Rattle.rs_wire.proofs.MoveLemmas.{line_sought, line_goes, line_fails, line_l
 use Rattle.rs_wire.proofs.body.BodyReader.line_part.Goals as goal
 
 -- the search's answer is about the bytes of the window
-answered : (window rest : List ℕ) (sought : ℕ) (r : Option ℕ) → window ≡ take CHUNK_LINE_LIMIT rest → IsLineSought sought rest
-    → (sought ≤ length window → first_line (take sought window) ≡ None → r ≡ first_line window) → first_line (take CHUNK_LINE_LIMIT rest) ≡ r
+answered : (window rest : List ℕ) (sought : ℕ) (r : Option ℕ) → window ≡ take max_chunk_line rest → IsLineSought sought rest
+    → (sought ≤ length window → first_line (take sought window) ≡ None → r ≡ first_line window) → first_line (take max_chunk_line rest) ≡ r
 answered window rest sought r e fits found =
     let low = subst (λ (xs : List ℕ). sought ≤ length xs) (sym e) (line_sought sought rest fits).0 in
     sym (found low (ap (λ xs. first_line (take sought xs)) e ∙ (line_sought sought rest fits).1) ∙ ap first_line e)
@@ -33,10 +33,10 @@ pub returns-in-None-clause-ok : goal.returns-in-None-clause-ok
 returns-in-None-clause-ok c fits =
     let rest = c.args.rest.now in
     let found = answered c.window-window.result.now rest c.args.sought c.first_line.result c.window-window.ensures.front fits c.first_line.ensures.found ∙ c.in-None.is in
-    line_waits c.args.self.now _ c.args.sought c.args.at rest c.requires refl refl found c.if-rest-lt-CHUNK_LINE_LIMIT.true
+    line_waits c.args.self.now _ c.args.sought c.args.at rest c.requires refl refl found c.if-rest-lt-MAX_CHUNK_LINE.true
 
 pub returns-in-None-2-clause-ok : goal.returns-in-None-2-clause-ok
 returns-in-None-2-clause-ok c fits =
     let rest = c.args.rest.now in
     let found = answered c.window-window.result.now rest c.args.sought c.first_line.result c.window-window.ensures.front fits c.first_line.ensures.found ∙ c.in-None.is in
-    line_long c.args.self.now c.args.sought c.args.at rest c.requires found c.if-rest-lt-CHUNK_LINE_LIMIT.false
+    line_long c.args.self.now c.args.sought c.args.at rest c.requires found c.if-rest-lt-MAX_CHUNK_LINE.false

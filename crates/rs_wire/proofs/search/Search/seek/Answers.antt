@@ -1,6 +1,6 @@
 use Rattle.std.proofs.Common.{◌≡◌, ◌+◌, ◌++◌, ◌<◌, length, take, drop, get_or, Some, None, sym, ap, ◌∙◌, arith}
 use Rattle.std.proofs.lemmas.List.{take_more, take_all, take-append-drop, drop_more, length-take-le}
-use Rattle.rs_wire.specs.Lines.{empty_line, spot_after, next_spot}
+use Rattle.rs_wire.specs.Lines.{first_empty_line, spot_after, next_spot}
 use Rattle.rs_wire.proofs.LinesLemmas.{spot_after_push, empty_line_found, empty_line_none}
 use Rattle.rs_wire.proofs.search.Search.seek.Goals as goal
 
@@ -23,7 +23,7 @@ returns-in-None-clause-found c start sought =
     let n = length-take-le i xs (omega arith) in
     let ends : next_spot c.loop-i.spot (get_or xs i 0) ≡ None = sym c.after.ensures ∙ c.in-None.is in
     let cut = ap (λ ys. take i xs ++ ys) (drop_more xs i 0 inside) in
-    sym (ap (empty_line start) (sym (take-append-drop i xs) ∙ cut)
+    sym (ap (first_empty_line start) (sym (take-append-drop i xs) ∙ cut)
     ∙ empty_line_found start c.loop-i.spot (take i xs) (get_or xs i 0) (drop (i + 1) xs) (c.loop-i.invariant start sought) ends
     ∙ ap (λ n. Some (n + 1)) n)
 

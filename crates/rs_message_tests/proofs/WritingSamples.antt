@@ -8,12 +8,12 @@ use Rattle.httparse.specs.Grammar.{is_uri_byte, is_token_byte, trim_ows, print_r
 use Rattle.rs_wire.specs.declared.field.Field.{Field}
 use Rattle.rs_wire.specs.declared.message.RequestMessage.{RequestMessage}
 use Rattle.rs_wire.specs.declared.message.ReplyMessage.{ReplyMessage}
-use Rattle.rs_wire.specs.declared.limits.TheConstants.{FIELD_LIMIT, HEAD_LIMIT}
-use Rattle.rs_wire.specs.Framing.{stated, is_chunked, has_two_lengths, has_bad_length, is_length, same_length, head_framing, has_its_host, request_framing, closes}
+use Rattle.rs_wire.specs.Limits.{max_fields, max_head}
+use Rattle.rs_wire.specs.Framing.{stated, is_chunked, has_two_lengths, has_bad_length, is_length, same_length, head_framing, has_its_host, request_framing, ends_connection}
 use Rattle.rs_wire.specs.Names.{same_name}
 use Rattle.rs_wire.specs.Items.{lists}
 use Rattle.rs_wire.specs.Writing.{line_for, IsWritable, IsWritableReply}
-use Rattle.rs_wire.proofs.TextLemmas.{IsToken-from_test, AllPass-from_test, IsField-from_tests}
+use Rattle.rs_wire.proofs.Cited.{IsToken-from_test, AllPass-from_test, IsField-from_tests}
 
 abbrev pub named : List ℕ → List ℕ → Field
 named name value = record { name = name; value = value }
@@ -26,7 +26,7 @@ abbrev get_root : ℕ → RequestMessage
 get_root place = record { method = codes "GET"; target = codes "/"; minor = 1; fields = host_h; body = []; close = false; place = place }
 
 get_root_holds : (place : ℕ) → IsWritable (get_root place)
-unfolding is_token_byte trim_ows print_request head_framing has_its_host request_framing stated is_chunked has_two_lengths has_bad_length is_length same_length same_name closes lists
+unfolding is_token_byte trim_ows print_request head_framing has_its_host request_framing stated is_chunked has_two_lengths has_bad_length is_length same_length same_name ends_connection lists
 get_root_holds place = record {
   minor = refl;
   head = record {
@@ -37,10 +37,10 @@ get_root_holds place = record {
     fields = IsField-from_tests (map line_for host_h) refl;
   };
   trimmed = All-cons (λ f. trim_ows f.value ≡ f.value) _ [] refl (All-nil (λ f. trim_ows f.value ≡ f.value));
-  few = leb-true 1 FIELD_LIMIT refl;
+  few = leb-true 1 max_fields refl;
   framed = refl;
   close = refl;
-  short = leb-true _ HEAD_LIMIT refl;
+  short = leb-true _ max_head refl;
 }
 
 -- the GET of `/` at the host `h`

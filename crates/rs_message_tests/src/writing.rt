@@ -3,14 +3,22 @@
 ghost use Rattle.std.specs.Prelude.{◌≡◌, ◌++◌, [], ◌∷◌, false, IfOk, OnOk};
 ghost use Rattle.rs_wire.specs.Writing.{IsWritable, IsWritableReply};
 
-use crate::head::bytes_of;
-use crate::reply_tests::FOUND;
-use crate::{
+use crate::replies::FOUND;
+use rs_path::{Bytes, NoMemory};
+use rs_wire::{
     Field, Fields, ReplyMessage, RequestMessage, RequestReader, Step, write_reply, write_request,
 };
-use rs_path::{Bytes, NoMemory};
 use std::alloc::Global;
 use std::test::Fail;
+
+/// Bytes of our own.
+fn bytes_of(alloc: Global, text: &[u8]) -> Result<Bytes, NoMemory>
+    ensures { IfOk result (λ bytes. bytes ≡ text.now) }
+{
+    let mut list = Vec::new(alloc);
+    list.extend_from_slice(text)?;
+    Ok(Bytes::of(list))
+}
 
 /// Puts a field at the end.
 fn put(alloc: Global, fields: &mut Fields, name: &[u8], value: &[u8]) -> Result<(), NoMemory>
@@ -57,9 +65,9 @@ fn a_written_request_is_read_back(rt: HostRuntime) -> Result<(), Fail> {
         return Ok(());
     };
     let mut before = Vec::new(alloc);
-    crate::tests::show(alloc, &request, &mut before)?;
+    crate::requests::show(alloc, &request, &mut before)?;
     let mut after = Vec::new(alloc);
-    crate::tests::show(alloc, &again, &mut after)?;
+    crate::requests::show(alloc, &again, &mut after)?;
     assert_eq!(rt; after, before);
     assert!(rt; matches!(reader.next(), Ok(Step::More)));
     assert!(rt; reader.finish().is_ok());
@@ -97,8 +105,8 @@ fn a_written_reply_is_read_back(rt: HostRuntime) -> Result<(), Fail> {
     let mut text = Vec::new(alloc);
     write_reply(alloc, &reply, false, &mut text)?;
     assert_eq!(rt; text.as_slice(), FOUND);
-    let before = crate::reply_tests::show(alloc, &reply)?;
-    let after = crate::reply_tests::outcome(alloc, false, text.as_slice())?;
+    let before = crate::replies::show(alloc, &reply)?;
+    let after = crate::replies::outcome(alloc, false, text.as_slice())?;
     assert_eq!(rt; after, before);
     Ok(())
 }

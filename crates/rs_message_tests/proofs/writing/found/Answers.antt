@@ -1,7 +1,7 @@
 use Rattle.std.proofs.Common.{◌≡◌, ◌++◌, [], ◌∷◌, List, refl, ap, ◌∙◌}
 use Rattle.rs_wire.specs.declared.field.Field.{Field}
-use Rattle.rs_wire.proofs.WritingSamples.{origin, exposed, tag, cached, kind, sized, found_is_writable}
-use Rattle.rs_wire.proofs.write_tests.found.Goals as goal
+use Rattle.rs_message_tests.proofs.WritingSamples.{origin, exposed, tag, cached, kind, sized, found_is_writable}
+use Rattle.rs_message_tests.proofs.writing.found.Goals as goal
 
 -- one more field
 grown : (xs ys zs : List Field) (f : Field) → ys ≡ zs → xs ≡ ys ++ f ∷ [] → xs ≡ zs ++ f ∷ []
