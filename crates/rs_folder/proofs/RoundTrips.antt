@@ -14,7 +14,7 @@ use Rattle.rs_path.specs.Tags.{is_tag}
 use Rattle.rs_path.specs.Keys.{key_text}
 use Rattle.rs_path.specs.Items.{entry_key, is_item, is_ascending}
 use Rattle.rs_path.specs.Readings.{is_slash}
-use Rattle.rs_path.proofs.NameLemmas.{name_without_slash}
+use Rattle.rs_path.proofs.Cited.{name_without_slash}
 use Rattle.rs_folder.specs.Descriptions.{holds_of, is_entry, folder_text}
 use Rattle.rs_folder.specs.FolderData.{tag_data, kind_data, length_data, entry_data, items_data}
 use Rattle.rs_folder.specs.FolderReadings.{is_folder_key, key_name, tag_at, kind_at, length_at, item_with, item_reading, items_from, folder_reading}

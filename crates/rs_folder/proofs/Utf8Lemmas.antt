@@ -11,8 +11,8 @@ use Rattle.rs_path.specs.Kinds.{is_kind}
 use Rattle.rs_path.specs.Tags.{is_tag}
 use Rattle.rs_path.specs.Keys.{key_text}
 use Rattle.rs_path.specs.Items.{entry_key}
-use Rattle.rs_path.proofs.NameLemmas.{name_text}
-use Rattle.rs_path.proofs.AsciiLemmas.{kind_text, tag_text}
+use Rattle.rs_path.proofs.Cited.{name_text}
+use Rattle.rs_path.proofs.Cited.{kind_text, tag_text}
 use Rattle.rs_folder.specs.Descriptions.{holds_of, is_length, is_entry, member_text, joined, braced, length_members, kind_members, tag_members, entry_text, context, folder_text}
 use Rattle.rs_folder.proofs.PartLemmas.{HasParts-from}
 
