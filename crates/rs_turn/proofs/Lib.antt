@@ -1,7 +1,8 @@
-pub mod Tallies
-pub mod Histories
-pub mod Parts
-pub mod Turning
-pub mod Seating
-pub mod Opening
-pub mod Telling
+pub mod Cited
+mod Tallies
+mod Histories
+mod Parts
+mod Turning
+mod Seating
+mod Opening
+mod Telling

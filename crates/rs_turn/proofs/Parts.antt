@@ -2,11 +2,11 @@
 use Rattle.std.proofs.Common.{◌≡◌, ℕ, ◌<◌, ◌≤◌, min, List, [], ◌∷◌, set, Option, sym, ap, subst, arith}
 use mathlib.Core.Option as home
 use lib.ListN.{get_elem?}
-use Rattle.rs_turn.specs.declared.entry.Entry.{Entry}
+use Rattle.rs_turn.specs.declared.log_entry.LogEntry.{LogEntry}
 use Rattle.rs_turn.specs.declared.board.View.{View}
 use Rattle.rs_turn.specs.declared.board.Stage.{Stage}
 use Rattle.rs_turn.specs.declared.board.Stage.TheVariants.{Idle, Waiting, Holding, Looked, Drew}
-use Rattle.rs_turn.specs.Rule.{is_queued, is_drawing, has_drawn, is_busy, queued, holding, drawing, named, SeatFits, Seats, InTurn, Queue, HistoryFits, Slot, History}
+use Rattle.rs_turn.specs.Rule.{is_queued, is_drawing, has_drawn, is_busy, queued, holding, drawing, named, SeatFits, Seats, InTurn, Queue, LogFits, Slot, LogPart}
 use Rattle.rs_turn.proofs.Tallies.{set_each, tally_set}
 
 -- the four words of the table
@@ -24,8 +24,8 @@ unqueued last first turn by (Holding t) e = absurd (omega arith)
 unqueued last first turn by Looked e = tt
 unqueued last first turn by (Drew n) e = tt
 
-module _ {W G : Type 0} where
-  module _ (made : ℕ) (owner : ℕ → ℕ) (views : List (View W G)) (by : ℕ) (v w : View W G) (k : Seats made owner views) (at : get_elem? views by ≡ home.some v) where
+module _ {W O : Type 0} where
+  module _ (made : ℕ) (owner : ℕ → ℕ) (views : List (View W O)) (by : ℕ) (v w : View W O) (k : Seats made owner views) (at : get_elem? views by ≡ home.some v) where
     -- a step of a seat that numbers none
     pub seats_stay : w.number ≡ v.number → w.made ≤ made → IsQuiet v.stage → IsQuiet w.stage → is_busy w.stage ≤ min w.number 1 → Seats made owner (set views by w)
     seats_stay number most quiet quiet' busy =
@@ -44,7 +44,7 @@ module _ {W G : Type 0} where
           room = let h = k.room in let q = quiet.1 in let q' = quiet'.1 in omega arith;
         }
 
-  module _ (last first : ℕ) (turn : ℕ → ℕ) (views : List (View W G)) (by : ℕ) (v w : View W G) (k : Queue last first turn views) (at : get_elem? views by ≡ home.some v) where
+  module _ (last first : ℕ) (turn : ℕ → ℕ) (views : List (View W O)) (by : ℕ) (v w : View W O) (k : Queue last first turn views) (at : get_elem? views by ≡ home.some v) where
     -- a step of a seat that keeps its ticket, or has none
     pub queue_stays : queued w ≡ queued v → InTurn last first turn by w.stage → Queue last first turn (set views by w)
     queue_stays same here = record {
@@ -52,11 +52,12 @@ module _ {W G : Type 0} where
       line = let s = tally_set queued views by v w at in let h = k.line in omega arith;
     }
 
-  module _ {B : Type 0} (stands : B → List (Entry W) → Type 0) (basis_of : B → G) (g : G) (log : List (Entry W)) (made : ℕ) (homes : List (home.Option (Option B))) (views : List (View W G)) (by : ℕ) (v w : View W G) (k : History stands basis_of g log made homes views) (at : get_elem? views by ≡ home.some v) where
+  module _ {B : Type 0} (stood : O → List (LogEntry W) → Type 0) (stands : O → B → List (LogEntry W) → Type 0) (origin : O) (log : List (LogEntry W)) (made : ℕ) (homes : List (home.Option (Option B))) (views : List (View W O)) (by : ℕ) (v w : View W O) (k : LogPart stood stands origin log made homes views) (at : get_elem? views by ≡ home.some v) where
     -- a step that moves neither the value nor the history
-    pub history_stays : (made' : ℕ) → made ≤ made' → HistoryFits g log w → holding w ≡ holding v → History stands basis_of g log made' homes (set views by w)
+    pub history_stays : (made' : ℕ) → made ≤ made' → LogFits origin log w → holding w ≡ holding v → LogPart stood stands origin log made' homes (set views by w)
     history_stays made' more here same = record {
-      each = set_each (λ j x. HistoryFits g log x) (λ j x. HistoryFits g log x) views by w k.each (λ j x other e old. old) here;
+      each = set_each (λ j x. LogFits origin log x) (λ j x. LogFits origin log x) views by w k.each (λ j x other e old. old) here;
+      begun = k.begun;
       unused = λ n h. k.unused n (omega arith);
-      slot = let s = tally_set holding views by v w at in subst (Slot stands basis_of g log homes) (omega arith) k.slot;
+      slot = let s = tally_set holding views by v w at in subst (Slot stood stands origin log homes) (omega arith) k.slot;
     }

@@ -6,13 +6,14 @@ use native.Mathlib.Nat.{mod-eq_of_lt}
 use lib.ListN.{get_elem?}
 use Rattle.atomic_table.specs.Table.{State, Me, Allows, Splits, Joins, keeps}
 use Rattle.atomic_table.proofs.Lists.{at_set}
-use Rattle.rs_turn.specs.declared.entry.Entry.{Entry}
+use Rattle.rs_turn.specs.declared.log_entry.LogEntry.{LogEntry}
 use Rattle.rs_turn.specs.declared.board.View.{View}
 use Rattle.rs_turn.specs.declared.board.Stage.{Stage}
 use Rattle.rs_turn.specs.declared.board.Stage.TheVariants.{Idle, Waiting, Holding, Looked, Drew}
-use Rattle.rs_turn.specs.History.{StartsWith, entries_of}
-use Rattle.rs_turn.specs.Rule.{is_queued, is_holding, is_drawing, has_drawn, is_busy, queued, holding, drawing, named, SeatFits, Seats, InTurn, StageFits, Queue, HistoryFits, Slot, History, Kept}
-use Rattle.rs_turn.specs.Plays.{most_seats, drawn_number, at_stage, having_seen, knowing_made, parted, informed, spent, Sees, Numbers, Counts, Adopts}
+use Rattle.rs_turn.specs.Logs.{StartsWith, own}
+use Rattle.rs_turn.specs.Rule.{is_queued, is_holding, is_drawing, has_drawn, is_busy, queued, holding, drawing, named, SeatFits, Seats, InTurn, StageFits, Queue, LogFits, Slot, LogPart, TurnRule}
+use Rattle.rs_turn.specs.Limits.{max_seats}
+use Rattle.rs_turn.specs.Plays.{drawn_number, at_stage, having_seen, knowing_made, parted, informed, spent, Sees, Numbers, CountsLog, Adopts}
 use Rattle.rs_turn.proofs.Tallies.{put, put_here, put_else, set_each, push_each, tally_set, tally_push, tally_le}
 use Rattle.rs_turn.proofs.Histories.{begins_itself, of_front, of_between}
 use Rattle.rs_turn.proofs.Parts.{four, unqueued, seats_stay, queue_stays, history_stays}
@@ -38,7 +39,7 @@ not_holding : (n : ℕ) (b : Bool) → is_holding (cond b (Drew n) Idle) ≡ 0
 not_holding n true = refl
 not_holding n false = refl
 
-drawn_fits : {W : Type 0} (n : ℕ) (log seen : List (Entry W)) → entries_of n log ≡ [] → (b : Bool) → StageFits log seen (cond b (Drew n) Idle)
+drawn_fits : {W : Type 0} (n : ℕ) (log seen : List (LogEntry W)) → own n log ≡ [] → (b : Bool) → StageFits log seen (cond b (Drew n) Idle)
 drawn_fits n log seen none true = none
 drawn_fits n log seen none false = tt
 
@@ -67,14 +68,14 @@ unheld (Holding t) q = q
 unheld Looked q = refl
 unheld (Drew n) q = refl
 
-numbered_by : {W G : Type 0} {made n by : ℕ} {owner : ℕ → ℕ} {v : View W G} → SeatFits made owner by v → v.stage ≡ Drew n → 0 < v.number
+numbered_by : {W O : Type 0} {made n by : ℕ} {owner : ℕ → ℕ} {v : View W O} → SeatFits made owner by v → v.stage ≡ Drew n → 0 < v.number
 numbered_by fit e = let h = fit.busy in let z = ap is_busy e in omega arith
 
-module _ {B W G : Type 0} (stands : B → List (Entry W) → Type 0) (basis_of : B → G) (g : G) where
+module _ {B W O : Type 0} (stood : O → List (LogEntry W) → Type 0) (stands : O → B → List (LogEntry W) → Type 0) (origin : O) where
   -- a step that reads the word i and moves neither the words nor the value
-  module _ (id : ℕ) (m : Me (Option B) (View W G)) (s : State (Option B) (View W G)) (k : Kept stands basis_of g s) (at : get_elem? s.views id ≡ home.some m.0) where
+  module _ (id : ℕ) (m : Me (Option B) (View W O)) (s : State (Option B) (View W O)) (k : TurnRule stood stands origin s) (at : get_elem? s.views id ≡ home.some m.0) where
     -- the seat looked, and may draw a number
-    sees_room : m.0.stage ≡ Idle → 0 < m.0.number → (b : Bool) → b ≡ ltb k.made most_seats → Seats k.made k.owner (set s.views id (knowing_made m.0 k.made (cond b Looked Idle)))
+    sees_room : m.0.stage ≡ Idle → 0 < m.0.number → (b : Bool) → b ≡ ltb k.made max_seats → Seats k.made k.owner (set s.views id (knowing_made m.0 k.made (cond b Looked Idle)))
     sees_room idle some false e = seats_stay k.made k.owner s.views id m.0 (knowing_made m.0 k.made Idle) k.seats at refl (omega arith) (ap has_drawn idle, ap is_drawing idle) (refl, refl) (omega arith)
     sees_room idle some true e =
         let v = m.0 in
@@ -85,7 +86,7 @@ module _ {B W G : Type 0} (stands : B → List (Entry W) → Type 0) (basis_of :
         let d = tally_set drawing s.views id v w at in
         let x = ap has_drawn idle in
         let y = ap is_drawing idle in
-        let few = ltb-true k.made most_seats (sym e) in
+        let few = ltb-true k.made max_seats (sym e) in
         let each = set_each (SeatFits k.made k.owner) (SeatFits k.made k.owner) s.views id w k.seats.each (λ j u other f old. old)
         record { number = fit.number; drawn = λ c f. let z = ap has_drawn f in absurd (omega arith); most = omega arith; busy = omega arith } in
         let all = tally_le drawing named (set s.views id w) (λ j u f. let z = (each j u f).busy in let c = drawing_busy u.stage in omega arith) in
@@ -102,11 +103,11 @@ module _ {B W G : Type 0} (stands : B → List (Entry W) → Type 0) (basis_of :
     sees_queue idle n false = queue_stays k.last k.first k.turn s.views id m.0 (knowing_made m.0 n Idle) k.queue at (sym (ap is_queued idle)) tt
     sees_queue idle n true = queue_stays k.last k.first k.turn s.views id m.0 (knowing_made m.0 n Looked) k.queue at (sym (ap is_queued idle)) tt
 
-    sees_history : m.0.stage ≡ Idle → (n : ℕ) (b : Bool) → History stands basis_of g k.log k.made s.homes (set s.views id (knowing_made m.0 n (cond b Looked Idle)))
+    sees_history : m.0.stage ≡ Idle → (n : ℕ) (b : Bool) → LogPart stood stands origin k.log k.made s.homes (set s.views id (knowing_made m.0 n (cond b Looked Idle)))
     sees_history idle n b =
         let fit = k.history.each id m.0 at in
-        history_stays stands basis_of g k.log k.made s.homes s.views id m.0 (knowing_made m.0 n (cond b Looked Idle)) k.history at k.made (omega arith)
-        record { basis = fit.basis; seen = fit.seen; told = fit.told; own = fit.own; stage = free b } (same b)
+        history_stays stood stands origin k.log k.made s.homes s.views id m.0 (knowing_made m.0 n (cond b Looked Idle)) k.history at k.made (omega arith)
+        record { origin = fit.origin; seen = fit.seen; told = fit.told; mine = fit.mine; stage = free b } (same b)
       where
         free : (b : Bool) → StageFits k.log m.0.seen (cond b Looked Idle)
         free false = tt
@@ -117,7 +118,7 @@ module _ {B W G : Type 0} (stands : B → List (Entry W) → Type 0) (basis_of :
         same true = sym (ap is_holding idle)
 
     -- a view whose seat is idle before and after
-    kept_idle : (w : View W G) → w.number ≡ m.0.number → w.made ≤ k.made → m.0.stage ≡ Idle → w.stage ≡ Idle → HistoryFits g k.log w → Kept stands basis_of g (record { words = s.words; homes = s.homes; views = set s.views id w })
+    kept_idle : (w : View W O) → w.number ≡ m.0.number → w.made ≤ k.made → m.0.stage ≡ Idle → w.stage ≡ Idle → LogFits origin k.log w → TurnRule stood stands origin (record { words = s.words; homes = s.homes; views = set s.views id w })
     kept_idle w number most idle idle' fit = record {
       last = k.last;
       first = k.first;
@@ -128,21 +129,21 @@ module _ {B W G : Type 0} (stands : B → List (Entry W) → Type 0) (basis_of :
       words = k.words;
       seats = let z = ap is_busy idle' in seats_stay k.made k.owner s.views id m.0 w k.seats at number most (ap has_drawn idle, ap is_drawing idle) (ap has_drawn idle', ap is_drawing idle') (omega arith);
       queue = queue_stays k.last k.first k.turn s.views id m.0 w k.queue at (ap is_queued idle' ∙ sym (ap is_queued idle)) (unqueued k.last k.first k.turn id w.stage (ap is_queued idle'));
-      history = history_stays stands basis_of g k.log k.made s.homes s.views id m.0 w k.history at k.made (omega arith) fit (ap is_holding idle' ∙ sym (ap is_holding idle));
+      history = history_stays stood stands origin k.log k.made s.homes s.views id m.0 w k.history at k.made (omega arith) fit (ap is_holding idle' ∙ sym (ap is_holding idle));
     }
 
     -- the same at a load of the word i
-    loaded : (w : View W G) (i : ℕ) → set s.words i (get_or s.words i 0) ≡ s.words → w.number ≡ m.0.number → w.made ≤ k.made → m.0.stage ≡ Idle → w.stage ≡ Idle → HistoryFits g k.log w
-        → Kept stands basis_of g (record { words = set s.words i (get_or s.words i 0); homes = s.homes; views = set s.views id w })
+    loaded : (w : View W O) (i : ℕ) → set s.words i (get_or s.words i 0) ≡ s.words → w.number ≡ m.0.number → w.made ≤ k.made → m.0.stage ≡ Idle → w.stage ≡ Idle → LogFits origin k.log w
+        → TurnRule stood stands origin (record { words = set s.words i (get_or s.words i 0); homes = s.homes; views = set s.views id w })
     loaded w i words number most idle idle' fit =
-        subst (λ (ws : List ℕ). Kept stands basis_of g (record { words = ws; homes = s.homes; views = set s.views id w })) (sym words) (kept_idle w number most idle idle' fit)
+        subst (λ (ws : List ℕ). TurnRule stood stands origin (record { words = ws; homes = s.homes; views = set s.views id w })) (sym words) (kept_idle w number most idle idle' fit)
 
-  pub sees : (slots id : ℕ) (m : Me (Option B) (View W G)) → m.0.stage ≡ Idle → 0 < m.0.number → Allows (Kept stands basis_of g) slots id m 3 (λ n. n) (Sees m)
+  pub sees : (slots id : ℕ) (m : Me (Option B) (View W O)) → m.0.stage ≡ Idle → 0 < m.0.number → Allows (TurnRule stood stands origin) slots id m 3 (λ n. n) (Sees m)
   sees slots id m idle some s k one at small =
       let made : get_or s.words 3 0 ≡ k.made = ap (λ ws. get_or ws 3 0) k.words in
       let fit = k.seats.each id m.0 at in
       let most = fit.most in
-      let w = λ (n : ℕ). knowing_made m.0 n (cond (ltb n most_seats) Looked Idle) in (
+      let w = λ (n : ℕ). knowing_made m.0 n (cond (ltb n max_seats) Looked Idle) in (
         w (get_or s.words 3 0),
         keeps,
         tt,
@@ -154,14 +155,14 @@ module _ {B W G : Type 0} (stands : B → List (Entry W) → Type 0) (basis_of :
           owner = k.owner;
           turn = k.turn;
           words = ap (λ ws. set ws 3 (get_or ws 3 0)) k.words;
-          seats = subst (λ (n : ℕ). Seats k.made k.owner (set s.views id (w n))) (sym made) (sees_room id m s k at idle some (ltb k.made most_seats) refl);
-          queue = sees_queue id m s k at idle (get_or s.words 3 0) (ltb (get_or s.words 3 0) most_seats);
-          history = sees_history id m s k at idle (get_or s.words 3 0) (ltb (get_or s.words 3 0) most_seats);
+          seats = subst (λ (n : ℕ). Seats k.made k.owner (set s.views id (w n))) (sym made) (sees_room id m s k at idle some (ltb k.made max_seats) refl);
+          queue = sees_queue id m s k at idle (get_or s.words 3 0) (ltb (get_or s.words 3 0) max_seats);
+          history = sees_history id m s k at idle (get_or s.words 3 0) (ltb (get_or s.words 3 0) max_seats);
         },
         (refl, omega arith, refl),
       )
 
-  pub counts : (slots id : ℕ) (m : Me (Option B) (View W G)) → m.0.stage ≡ Idle → 0 < m.0.number → Allows (Kept stands basis_of g) slots id m 2 (λ n. n) (Counts m)
+  pub counts : (slots id : ℕ) (m : Me (Option B) (View W O)) → m.0.stage ≡ Idle → 0 < m.0.number → Allows (TurnRule stood stands origin) slots id m 2 (λ n. n) (CountsLog stood m)
   counts slots id m idle some s k one at small =
       let v = m.0 in
       let fit = k.history.each id v at in (
@@ -169,40 +170,40 @@ module _ {B W G : Type 0} (stands : B → List (Entry W) → Type 0) (basis_of :
         keeps,
         tt,
         loaded id m s k at (having_seen v k.log) 2 (ap (λ ws. set ws 2 (get_or ws 2 0)) k.words ∙ sym k.words) refl (k.seats.each id v at).most idle idle
-            record { basis = fit.basis; seen = begins_itself k.log; told = fit.told; own = λ _. refl; stage = subst (StageFits k.log k.log) (sym idle) tt },
-        (refl, ap (λ ws. get_or ws 2 0) k.words, fit.seen, fit.told, fit.own some, refl),
+            record { origin = fit.origin; seen = begins_itself k.log; told = fit.told; mine = λ _. refl; stage = subst (StageFits k.log k.log) (sym idle) tt },
+        (refl, ap (λ ws. get_or ws 2 0) k.words, (origin, fit.origin some, k.history.begun), fit.seen, fit.told, fit.mine some, refl),
       )
 
-  pub adopts : (slots id : ℕ) (m : Me (Option B) (View W G)) → m.0.stage ≡ Idle → 0 < m.0.number → StartsWith m.0.told m.0.seen → Allows (Kept stands basis_of g) slots id m 2 (λ n. n) (Adopts m)
+  pub adopts : (slots id : ℕ) (m : Me (Option B) (View W O)) → m.0.stage ≡ Idle → 0 < m.0.number → StartsWith m.0.told m.0.seen → Allows (TurnRule stood stands origin) slots id m 2 (λ n. n) (Adopts m)
   adopts slots id m idle some begins s k one at small =
       let v = m.0 in
       let fit = k.history.each id v at in
-      let same = of_between v.number k.log v.told v.seen fit.told begins (fit.own some) in (
+      let same = of_between v.number k.log v.told v.seen fit.told begins (fit.mine some) in (
         having_seen v v.told,
         keeps,
         tt,
         loaded id m s k at (having_seen v v.told) 2 (ap (λ ws. set ws 2 (get_or ws 2 0)) k.words ∙ sym k.words) refl (k.seats.each id v at).most idle idle
-            record { basis = fit.basis; seen = fit.told; told = fit.told; own = λ h. fit.own h ∙ sym same; stage = subst (StageFits k.log v.told) (sym idle) tt },
+            record { origin = fit.origin; seen = fit.told; told = fit.told; mine = λ h. fit.mine h ∙ sym same; stage = subst (StageFits k.log v.told) (sym idle) tt },
         (refl, same, refl),
       )
 
   -- a note that was read says nothing more
-  spends : (id : ℕ) (m : Me (Option B) (View W G)) (s : State (Option B) (View W G)) (k : Kept stands basis_of g s) → get_elem? s.views id ≡ home.some m.0 → m.0.stage ≡ Idle → m.0.number ≡ 0
-      → Kept stands basis_of g (record { words = s.words; homes = s.homes; views = set s.views id spent })
+  spends : (id : ℕ) (m : Me (Option B) (View W O)) (s : State (Option B) (View W O)) (k : TurnRule stood stands origin s) → get_elem? s.views id ≡ home.some m.0 → m.0.stage ≡ Idle → m.0.number ≡ 0
+      → TurnRule stood stands origin (record { words = s.words; homes = s.homes; views = set s.views id spent })
   spends id m s k at idle none = kept_idle id m s k at spent (sym none) (omega arith) idle refl
-      record { basis = λ h. absurd (omega arith); seen = (k.log, refl); told = (k.log, refl); own = λ h. absurd (omega arith); stage = tt }
+      record { origin = λ h. absurd (omega arith); seen = (k.log, refl); told = (k.log, refl); mine = λ h. absurd (omega arith); stage = tt }
 
-  pub joins : (id : ℕ) (v : View W G) (other : ℕ) (w : View W G) → v.stage ≡ Idle → w.stage ≡ Idle → w.number ≡ 0 → Joins (Kept stands basis_of g) id v other w (informed v w) spent
+  pub joins : (id : ℕ) (v : View W O) (other : ℕ) (w : View W O) → v.stage ≡ Idle → w.stage ≡ Idle → w.number ≡ 0 → Joins (TurnRule stood stands origin) id v other w (informed v w) spent
   joins id v other w idle idle' none s k at apart there =
       let both = informed v w in
       let fit = k.history.each id v at in
       let was : get_elem? s.views other ≡ home.some w = ⊎_elim (λ t. absurd (apart t.0)) (λ t. t.1) (at_set s.views id other both w there) in
       let told = (k.history.each other w was).seen in
       let mid = kept_idle id (v, []) s k at both refl (k.seats.each id v at).most idle idle
-      record { basis = fit.basis; seen = fit.seen; told = told; own = fit.own; stage = fit.stage } in
+      record { origin = fit.origin; seen = fit.seen; told = told; mine = fit.mine; stage = fit.stage } in
       spends other (w, []) (record { words = s.words; homes = s.homes; views = set s.views id both }) mid there idle' none
 
-  module _ (id : ℕ) (m : Me (Option B) (View W G)) (s : State (Option B) (View W G)) (k : Kept stands basis_of g s) (at : get_elem? s.views id ≡ home.some m.0) (looked : m.0.stage ≡ Looked) where
+  module _ (id : ℕ) (m : Me (Option B) (View W O)) (s : State (Option B) (View W O)) (k : TurnRule stood stands origin s) (at : get_elem? s.views id ≡ home.some m.0) (looked : m.0.stage ≡ Looked) where
     -- the seats, where one more is numbered
     numbers_seats : (b : Bool) → Seats (k.made + 1) (put k.owner (k.made + 1) id) (set s.views id (knowing_made m.0 (k.made + 1) (cond b (Drew (k.made + 1)) Idle)))
     numbers_seats b =
@@ -232,14 +233,14 @@ module _ {B W G : Type 0} (stands : B → List (Entry W) → Type 0) (basis_of :
     numbers_queue n false = queue_stays k.last k.first k.turn s.views id m.0 (knowing_made m.0 n Idle) k.queue at (sym (ap is_queued looked)) tt
     numbers_queue n true = queue_stays k.last k.first k.turn s.views id m.0 (knowing_made m.0 n (Drew n)) k.queue at (sym (ap is_queued looked)) tt
 
-    numbers_history : (b : Bool) → History stands basis_of g k.log (k.made + 1) s.homes (set s.views id (knowing_made m.0 (k.made + 1) (cond b (Drew (k.made + 1)) Idle)))
+    numbers_history : (b : Bool) → LogPart stood stands origin k.log (k.made + 1) s.homes (set s.views id (knowing_made m.0 (k.made + 1) (cond b (Drew (k.made + 1)) Idle)))
     numbers_history b =
         let n = k.made + 1 in
         let fit = k.history.each id m.0 at in
-        history_stays stands basis_of g k.log k.made s.homes s.views id m.0 (knowing_made m.0 n (cond b (Drew n) Idle)) k.history at n (omega arith)
-        record { basis = fit.basis; seen = fit.seen; told = fit.told; own = fit.own; stage = drawn_fits n k.log m.0.seen (k.history.unused n (omega arith)) b } (not_holding n b ∙ sym (ap is_holding looked))
+        history_stays stood stands origin k.log k.made s.homes s.views id m.0 (knowing_made m.0 n (cond b (Drew n) Idle)) k.history at n (omega arith)
+        record { origin = fit.origin; seen = fit.seen; told = fit.told; mine = fit.mine; stage = drawn_fits n k.log m.0.seen (k.history.unused n (omega arith)) b } (not_holding n b ∙ sym (ap is_holding looked))
 
-  pub numbers : (slots id : ℕ) (m : Me (Option B) (View W G)) → m.0.stage ≡ Looked → Allows (Kept stands basis_of g) slots id m 3 (λ r. (r + 1) % 2 ^ 64) (Numbers m)
+  pub numbers : (slots id : ℕ) (m : Me (Option B) (View W O)) → m.0.stage ≡ Looked → Allows (TurnRule stood stands origin) slots id m 3 (λ r. (r + 1) % 2 ^ 64) (Numbers m)
   numbers slots id m looked s k one at small =
       let made : get_or s.words 3 0 ≡ k.made = ap (λ ws. get_or ws 3 0) k.words in
       let fit = k.seats.each id m.0 at in
@@ -248,7 +249,7 @@ module _ {B W G : Type 0} (stands : B → List (Entry W) → Type 0) (basis_of :
       let mine = (fit.number some).1 in
       let room = k.seats.room in
       let r = get_or s.words 3 0 in
-      let w = λ (n : ℕ). knowing_made m.0 (n + 1) (cond (ltb n most_seats) (Drew (n + 1)) Idle) in (
+      let w = λ (n : ℕ). knowing_made m.0 (n + 1) (cond (ltb n max_seats) (Drew (n + 1)) Idle) in (
         w (get_or s.words 3 0),
         keeps,
         tt,
@@ -260,9 +261,9 @@ module _ {B W G : Type 0} (stands : B → List (Entry W) → Type 0) (basis_of :
           owner = put k.owner (k.made + 1) id;
           turn = k.turn;
           words = ap (λ ws. set ws 3 ((get_or ws 3 0 + 1) % 2 ^ 64)) k.words ∙ ap (λ n. four (k.last % 2 ^ 64) (k.first % 2 ^ 64) (length k.log) n) (mod-eq_of_lt (omega arith));
-          seats = subst (λ (n : ℕ). Seats (k.made + 1) (put k.owner (k.made + 1) id) (set s.views id (w n))) (sym made) (numbers_seats id m s k at looked (ltb k.made most_seats));
-          queue = numbers_queue id m s k at looked (get_or s.words 3 0 + 1) (ltb (get_or s.words 3 0) most_seats);
-          history = subst (λ (n : ℕ). History stands basis_of g k.log (k.made + 1) s.homes (set s.views id (w n))) (sym made) (numbers_history id m s k at looked (ltb k.made most_seats));
+          seats = subst (λ (n : ℕ). Seats (k.made + 1) (put k.owner (k.made + 1) id) (set s.views id (w n))) (sym made) (numbers_seats id m s k at looked (ltb k.made max_seats));
+          queue = numbers_queue id m s k at looked (get_or s.words 3 0 + 1) (ltb (get_or s.words 3 0) max_seats);
+          history = subst (λ (n : ℕ). LogPart stood stands origin k.log (k.made + 1) s.homes (set s.views id (w n))) (sym made) (numbers_history id m s k at looked (ltb k.made max_seats));
         },
         (
           refl,
@@ -273,7 +274,7 @@ module _ {B W G : Type 0} (stands : B → List (Entry W) → Type 0) (basis_of :
         ),
       )
 
-  module _ (id : ℕ) (v : View W G) (s : State (Option B) (View W G)) (k : Kept stands basis_of g s) (at : get_elem? s.views id ≡ home.some v) (quiet : (is_queued v.stage ≡ 0) × (is_drawing v.stage ≡ 0)) where
+  module _ (id : ℕ) (v : View W O) (s : State (Option B) (View W O)) (k : TurnRule stood stands origin s) (at : get_elem? s.views id ≡ home.some v) (quiet : (is_queued v.stage ≡ 0) × (is_drawing v.stage ≡ 0)) where
     -- the seats, where one is split off: it has the number that was drawn, if one was
     parts_seats : Seats k.made (put k.owner (drawn_number v.stage) (length (set s.views id (at_stage v Idle)))) (set s.views id (at_stage v Idle) ++ parted v ∷ [])
     parts_seats =
@@ -318,27 +319,28 @@ module _ {B W G : Type 0} (stands : B → List (Entry W) → Type 0) (basis_of :
           line = let h = q.line in let u = tally_push queued views (parted v) in omega arith;
         }
 
-    parts_history : History stands basis_of g k.log k.made s.homes (set s.views id (at_stage v Idle) ++ parted v ∷ [])
+    parts_history : LogPart stood stands origin k.log k.made s.homes (set s.views id (at_stage v Idle) ++ parted v ∷ [])
     parts_history =
         let left = at_stage v Idle in
         let views = set s.views id left in
         let fit = k.history.each id v at in
         let some = λ (h : 0 < drawn_number v.stage). numbered_by (k.seats.each id v at) (drawn_stage v.stage h) in
-        let t = history_stays stands basis_of g k.log k.made s.homes s.views id v left k.history at k.made (omega arith)
-        record { basis = fit.basis; seen = fit.seen; told = fit.told; own = fit.own; stage = tt } (sym (unheld v.stage quiet.0)) in
+        let t = history_stays stood stands origin k.log k.made s.homes s.views id v left k.history at k.made (omega arith)
+        record { origin = fit.origin; seen = fit.seen; told = fit.told; mine = fit.mine; stage = tt } (sym (unheld v.stage quiet.0)) in
         record {
-          each = push_each (λ j x. HistoryFits g k.log x) views (parted v) t.each record {
-            basis = λ h. fit.basis (some h);
+          each = push_each (λ j x. LogFits origin k.log x) views (parted v) t.each record {
+            origin = λ h. fit.origin (some h);
             seen = fit.seen;
             told = fit.told;
-            own = λ h. let none = subst (StageFits k.log v.seen) (drawn_stage v.stage h) fit.stage in none ∙ sym (of_front (drawn_number v.stage) k.log v.seen fit.seen none);
+            mine = λ h. let none = subst (StageFits k.log v.seen) (drawn_stage v.stage h) fit.stage in none ∙ sym (of_front (drawn_number v.stage) k.log v.seen fit.seen none);
             stage = tt;
           };
+          begun = t.begun;
           unused = t.unused;
-          slot = let u = tally_push holding views (parted v) in subst (Slot stands basis_of g k.log s.homes) (omega arith) t.slot;
+          slot = let u = tally_push holding views (parted v) in subst (Slot stood stands origin k.log s.homes) (omega arith) t.slot;
         }
 
-  pub parts : (id : ℕ) (v : View W G) → (is_queued v.stage ≡ 0) × (is_drawing v.stage ≡ 0) → Splits (Kept stands basis_of g) id v (at_stage v Idle) (parted v)
+  pub parts : (id : ℕ) (v : View W O) → (is_queued v.stage ≡ 0) × (is_drawing v.stage ≡ 0) → Splits (TurnRule stood stands origin) id v (at_stage v Idle) (parted v)
   parts id v quiet s k at = record {
     last = k.last;
     first = k.first;

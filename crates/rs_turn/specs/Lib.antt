@@ -1,4 +1,7 @@
-pub mod History
+pub mod Logs
+pub mod Limits
+pub mod Entries
+pub mod Origins
 pub mod Rule
 pub mod Plays
 pub mod Places

@@ -2,7 +2,7 @@
 //!
 //! Word 0 counts the tickets drawn and word 1 those served, both modulo 2 to the 64th. Word 2 is the length of the history, and word 3 the
 //! number of the last seat that was numbered. The one slot holds the value, but for the time from the look that finds a seat's ticket to its pass.
-use crate::entry::Entry;
+use crate::log_entry::LogEntry;
 use crate::held::Held;
 use atomic_table::{Seat, Shared, Table, TableRule};
 use std::alloc::Global;
@@ -31,12 +31,13 @@ pub enum Stage {
 }
 
 /// What a seat knows. No value of it is made.
-pub struct View<W, G> {
-    pub basis: Option<G>,
+pub struct View<W, O> {
+    /// The value that the lock was made with.
+    pub origin: Option<O>,
     /// The history as far as the seat has seen it.
-    pub seen: LinkedList<Entry<W>>,
+    pub seen: LinkedList<LogEntry<W>>,
     /// What another seat told it of the history.
-    pub told: LinkedList<Entry<W>>,
+    pub told: LinkedList<LogEntry<W>>,
     /// The seat's number. 0 has none: a note from one seat to another.
     pub number: u64,
     /// At least so many seats were numbered.
@@ -47,17 +48,18 @@ pub struct View<W, G> {
 /// The rule of the table.
 pub struct Turns;
 
-impl<V: Held> TableRule<Option<Box<V, Global>>, View<V::What, V::Basis>, Snapshot<V>> for Turns {
-    ghost use Rattle.rs_turn.specs.Rule.{Kept, opened};
+impl<V: Held> TableRule<Option<Box<V, Global>>, View<V::What, V>, Snapshot<V>> for Turns {
+    ghost use Rattle.rs_turn.specs.Origins.{StandsFrom};
+    ghost use Rattle.rs_turn.specs.Rule.{TurnRule, opened};
 
-    ghost holds = { λ k. Kept (λ b. V.stands b.value) (λ b. V.basis b.value) (V.basis k.value) };
+    ghost holds = { λ k. TurnRule V.stands (λ o b. StandsFrom V.stands V.basis o b.value) k.value };
 
-    ghost first = { λ k. opened (V.basis k.value) };
+    ghost first = { λ k. opened k.value };
 }
 
 type Slot<V> = Option<Box<V, Global>>;
 
-type Known<V> = View<<V as Held>::What, <V as Held>::Basis>;
+type Known<V> = View<<V as Held>::What, V>;
 
 pub(crate) type Owned<V> = Table<Slot<V>, Known<V>, Snapshot<V>, Turns, Global>;
 

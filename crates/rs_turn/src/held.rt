@@ -1,9 +1,11 @@
 //! What a lock holds.
 
 /// A value that a `TurnLock` can hold: it stands for a list of entries, of which it need not keep a copy.
+///
+/// The `who` of an entry is the number of the seat whose turn added it. Those that the value had when its lock was made have 0.
 pub trait Held: Drop {
     ghost use Rattle.std.specs.Prelude.{◌≡◌, ℕ, List, length};
-    ghost use Rattle.rs_turn.specs.declared.entry.Entry.{Entry};
+    ghost use Rattle.rs_turn.specs.declared.log_entry.LogEntry.{LogEntry};
 
     /// What an entry says.
     type What;
@@ -12,7 +14,7 @@ pub trait Held: Drop {
     type Basis;
 
     // The lists that a value stands for.
-    ghost stands: { Self → List (Entry Self.What) → Type 0 };
+    ghost stands: { Self → List (LogEntry Self.What) → Type 0 };
 
     // What no deed changes.
     ghost basis: { Self → Self.Basis };
@@ -22,5 +24,5 @@ pub trait Held: Drop {
 
     /// The length of the list, which a `u64` has room for.
     fn len(&self) -> u64
-        ensures { (h : List (Entry Self.What)) → stands self.now h → result ≡ length h };
+        ensures { (h : List (LogEntry Self.What)) → stands self.now h → result ≡ length h };
 }

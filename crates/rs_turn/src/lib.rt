@@ -3,9 +3,10 @@
 
 mod board;
 mod deed;
-mod entry;
 mod held;
+mod limits;
 mod lock;
+mod log_entry;
 mod meeting;
 mod plays;
 mod seat;
@@ -18,8 +19,9 @@ mod turn;
 mod waiting;
 
 pub use deed::Deed;
-pub use entry::Entry;
 pub use held::Held;
+pub use limits::{MAX_SEATS, limit_laws};
 pub use lock::TurnLock;
+pub use log_entry::LogEntry;
 pub use seat::Seat;
 pub use seat_fault::SeatFault;

@@ -1,7 +1,8 @@
 //! The lock.
 ghost use Rattle.std.specs.Prelude.{◌≡◌, ℕ, ◌<◌, List, [], Some, IfOk};
-ghost use Rattle.rs_turn.specs.declared.entry.Entry.{Entry};
-ghost use Rattle.rs_turn.specs.History.{StartsWith, entries_of};
+ghost use Rattle.rs_turn.specs.declared.log_entry.LogEntry.{LogEntry};
+ghost use Rattle.rs_turn.specs.Logs.{StartsWith, own};
+ghost use Rattle.rs_turn.specs.Origins.{BeginsAs, BeginsAsMade, HasBasisOf};
 
 use crate::board::Owned;
 use crate::held::Held;
@@ -17,7 +18,9 @@ use std::sync::Wait;
 
 /// A lock whose callers take turns, each by a `Seat` of its own, and whose turns make one history.
 ///
-/// Clauses see which lock it is, and the `basis` of its value. A seat is of this lock where the seat's `lock` is the lock.
+/// Clauses see which lock it is, and its `origin`: the value that it was made with, as it was then. What never changes of the values since is
+/// read off it: their `basis`, and that each list that a seat sees begins with one that the origin stood for. A seat is of this lock where the
+/// seat's `lock` is the lock.
 #[derive(Drop)]
 pub struct TurnLock<V: Held> {
     pub(crate) table: Owned<V>,
@@ -27,9 +30,9 @@ impl<V: Held> Model for TurnLock<V> {
     ghost use Rattle.std.specs.Prelude.{◌≡◌, Some};
     ghost use Rattle.rs_turn.specs.Sitting.{Lock};
 
-    ghost Value = { Lock V.Basis };
+    ghost Value = { Lock V };
 
-    ghost view = { λ l. record { table = l.table.shared.table_id; basis = Some (V.basis l.table.shared.key.value) } };
+    ghost view = { λ l. record { table = l.table.shared.table_id; origin = Some l.table.shared.key.value } };
 
     ghost invariant = { λ l. l.table.shared.table_id.words ≡ 4 };
 }
@@ -37,11 +40,13 @@ impl<V: Held> Model for TurnLock<V> {
 impl<V: Held> TurnLock<V> {
     /// A lock of this value, and its first seat, which has number 1 and has seen the history so far.
     ///
-    /// Each entry that the value stands for so far has `who` 0. Where there is no memory the value is dropped.
+    /// Each entry that the value stands for so far has `who` 0. The seat's list begins with those entries, and so does each later one of a seat
+    /// that is split off it: no seat's list is ever cut. Where there is no memory the value is dropped.
     pub fn new(alloc: Global, value: V) -> Result<(TurnLock<V>, Seat<V>), NoMemory>
-        requires { (h : List (Entry V.What)) × V.stands value h × ((n : ℕ) → 0 < n → entries_of n h ≡ []) }
-        ensures lock { IfOk result (λ r. r.0.basis ≡ Some (V.basis value)) }
-        ensures seat { IfOk result (λ r. (r.1.lock ≡ r.0) × (r.1.who ≡ 1) × (r.1.made ≡ 1) × (r.1.faults ≡ 0) × (entries_of 1 r.1.list ≡ [])) }
+        requires { (h : List (LogEntry V.What)) × V.stands value h × ((n : ℕ) → 0 < n → own n h ≡ []) }
+        ensures lock { IfOk result (λ r. r.0.origin ≡ Some value) }
+        ensures seat { IfOk result (λ r. (r.1.lock ≡ r.0) × (r.1.who ≡ 1) × (r.1.made ≡ 1) × (r.1.faults ≡ 0) × (own 1 r.1.list ≡ [])) }
+        ensures started { IfOk result (λ r. BeginsAs V.stands value r.1.list) }
     {
         let about = Snapshot::of(&value);
         let words = [0, 0, value.len(), 1];
@@ -63,11 +68,12 @@ impl<V: Held> TurnLock<V> {
 
     /// Waits for the seat's last turn and gives the value out.
     ///
-    /// The value has the lock's basis and stands for a history which begins with all that the seat has seen. This takes no memory.
+    /// The value has the lock's basis and stands for a history which begins with all that the seat has seen, and with what the value stood for when
+    /// the lock was made. This takes no memory.
     pub fn close<R: Wait>(self, rt: &R, seat: Seat<V>) -> V
         requires { seat.lock ≡ self }
-        ensures basis { Some (V.basis result) ≡ self.basis }
-        ensures list { (h : List (Entry V.What)) × V.stands result h × StartsWith h seat.list }
+        ensures basis { HasBasisOf V.basis self.origin result }
+        ensures list { (h : List (LogEntry V.What)) × V.stands result h × StartsWith h seat.list × BeginsAsMade V.stands self.origin h }
     {
         let mut place = seat.place;
         let value = take(rt, &self.table.shared, &mut place);

@@ -1,6 +1,7 @@
 //! Two seats meet.
 ghost use Rattle.std.specs.Prelude.{◌≡◌, length};
-ghost use Rattle.rs_turn.specs.History.{StartsWith, entries_of};
+ghost use Rattle.rs_turn.specs.Logs.{StartsWith, own};
+ghost use Rattle.rs_turn.specs.Origins.{BeginsAsMade};
 
 use crate::held::Held;
 use crate::lock::TurnLock;
@@ -17,7 +18,8 @@ impl<V: Held> TurnLock<V> {
         ensures one { one.new ≡ record one.old { list = one.new.list } }
         ensures other { other.new ≡ record other.old { list = one.new.list } }
         ensures begins { StartsWith one.new.list one.old.list × StartsWith one.new.list other.old.list }
-        ensures own { (entries_of one.old.who one.new.list ≡ entries_of one.old.who one.old.list) × (entries_of other.old.who one.new.list ≡ entries_of other.old.who other.old.list) }
+        ensures started { BeginsAsMade V.stands self.now.origin one.new.list }
+        ensures mine { (own one.old.who one.new.list ≡ own one.old.who one.old.list) × (own other.old.who one.new.list ≡ own other.old.who other.old.list) }
         ensures length { result ≡ length one.new.list }
     {
         let board = &self.table.shared;

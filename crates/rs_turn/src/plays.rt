@@ -1,6 +1,7 @@
 //! What each step on the table tells. These types are for the proofs alone.
 ghost use Rattle.std.specs.Prelude.{Option, None};
-ghost use Rattle.rs_turn.specs.Plays.{Draws, Books, Passes, Sees, Numbers, Counts, Adopts, Looks, at_stage, parted, informed, spent};
+ghost use Rattle.rs_turn.specs.Origins.{StandsFrom};
+ghost use Rattle.rs_turn.specs.Plays.{DrawsTicket, Books, Passes, Sees, Numbers, CountsLog, Adopts, Looks, at_stage, parted, informed, spent};
 ghost use Rattle.rs_turn.specs.declared.board.Stage.TheVariants.{Idle};
 
 use crate::board::View;
@@ -12,15 +13,15 @@ use std::marker::{Brand, PhantomData};
 /// A ticket is drawn.
 pub(crate) struct Draw;
 
-impl<S, W, G> Play<S, View<W, G>> for Draw {
-    ghost then = { λ _ m r n. Draws m r n };
+impl<S, W, O> Play<S, View<W, O>> for Draw {
+    ghost then = { λ _ m r n. DrawsTicket m r n };
 }
 
 /// The ticket that is served is looked at. Where it is the seat's own, the seat takes the value.
 pub(crate) struct Look;
 
-impl<V: Held> Play<Option<Box<V, Global>>, View<V::What, V::Basis>> for Look {
-    ghost then = { λ _ m r n. Looks (λ b. V.stands b.value) (λ b. V.basis b.value) m r n };
+impl<V: Held> Play<Option<Box<V, Global>>, View<V::What, V>> for Look {
+    ghost then = { λ _ m r n. Looks (λ o b. StandsFrom V.stands V.basis o b.value) m r n };
 }
 
 /// The entry that a turn adds, if it adds one. A call at `Brand` picks it.
@@ -37,49 +38,49 @@ pub(crate) struct Book<E> {
     entry: PhantomData<E>,
 }
 
-impl<S, W, G, E: Told<W>> Play<S, View<W, G>> for Book<E> {
+impl<S, W, O, E: Told<W>> Play<S, View<W, O>> for Book<E> {
     ghost then = { λ _ m r n. Books E.entry m r n };
 }
 
 /// The value comes home, and the next ticket is served.
 pub(crate) struct Pass;
 
-impl<S, W, G> Play<S, View<W, G>> for Pass {
+impl<S, W, O> Play<S, View<W, O>> for Pass {
     ghost then = { λ _ m r n. Passes m r n };
 }
 
 /// How many seats were numbered is looked at.
 pub(crate) struct See;
 
-impl<S, W, G> Play<S, View<W, G>> for See {
+impl<S, W, O> Play<S, View<W, O>> for See {
     ghost then = { λ _ m r n. Sees m r n };
 }
 
 /// One more seat is numbered.
 pub(crate) struct Number;
 
-impl<S, W, G> Play<S, View<W, G>> for Number {
+impl<S, W, O> Play<S, View<W, O>> for Number {
     ghost then = { λ _ m r n. Numbers m r n };
 }
 
 /// The whole history is seen.
 pub(crate) struct Count;
 
-impl<S, W, G> Play<S, View<W, G>> for Count {
-    ghost then = { λ _ m r n. Counts m r n };
+impl<V: Held> Play<Option<Box<V, Global>>, View<V::What, V>> for Count {
+    ghost then = { λ _ m r n. CountsLog V.stands m r n };
 }
 
 /// What the other seat told is seen.
 pub(crate) struct Adopt;
 
-impl<S, W, G> Play<S, View<W, G>> for Adopt {
+impl<S, W, O> Play<S, View<W, O>> for Adopt {
     ghost then = { λ _ m r n. Adopts m r n };
 }
 
 /// A new seat, where a number was drawn, and else a note of what the seat has seen.
 pub(crate) struct Part;
 
-impl<W, G> Split<View<W, G>> for Part {
+impl<W, O> Split<View<W, O>> for Part {
     ghost left = { λ v. at_stage v Idle };
 
     ghost right = { parted };
@@ -88,7 +89,7 @@ impl<W, G> Split<View<W, G>> for Part {
 /// A note is read.
 pub(crate) struct Inform;
 
-impl<W, G> Join<View<W, G>> for Inform {
+impl<W, O> Join<View<W, O>> for Inform {
     ghost both = { informed };
 
     ghost spent = { spent };

@@ -1,16 +1,14 @@
 //! One seat more.
 ghost use Rattle.std.specs.Prelude.{◌≡◌, ◌≤◌, IfOk, IfErr};
-ghost use Rattle.rs_turn.specs.Plays.{most_seats};
+ghost use Rattle.rs_turn.specs.Limits.{max_seats};
 ghost use Rattle.rs_turn.specs.Sitting.{IsSplitFrom};
 
 use crate::held::Held;
+use crate::limits::MAX_SEATS;
 use crate::lock::TurnLock;
 use crate::seat::Seat;
 use crate::seat_fault::SeatFault;
 use crate::steps::{number, part, see};
-
-/// A lock numbers at most so many seats.
-const MOST_SEATS: u64 = 4_294_967_295;
 
 impl<V: Held> TurnLock<V> {
     /// A new seat, which has seen what `from` has.
@@ -22,15 +20,15 @@ impl<V: Held> TurnLock<V> {
         requires { from.old.lock ≡ self.now }
         ensures from { (from.new ≡ record from.old { made = from.new.made }) × (from.old.made ≤ from.new.made) }
         ensures seat { IfOk result (λ s. IsSplitFrom from.old from.new s) }
-        ensures full { IfErr result (λ f. (f ≡ SeatFault.Full from.new.made) × (most_seats ≤ from.new.made)) }
+        ensures full { IfErr result (λ f. (f ≡ SeatFault.Full from.new.made) × (max_seats ≤ from.new.made)) }
     {
         let board = &self.table.shared;
         let made = see(board, &mut from.place);
-        if made >= MOST_SEATS {
+        if made >= MAX_SEATS {
             return Err(SeatFault::Full { made });
         }
         let before = number(board, &mut from.place);
-        if before >= MOST_SEATS {
+        if before >= MAX_SEATS {
             let made = see(board, &mut from.place);
             return Err(SeatFault::Full { made });
         }

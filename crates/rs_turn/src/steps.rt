@@ -2,8 +2,9 @@
 ghost use Rattle.std.specs.Prelude.{◌≡◌, ℕ, ◌+◌, ◌^◌, ◌<◌, ◌⊎◌, [], ◌∷◌, length};
 ghost use Rattle.rs_turn.specs.declared.board.Stage.TheVariants.{Idle, Waiting, Holding, Looked, Drew};
 ghost use Rattle.rs_turn.specs.Places.{IsPlaceOf, IsAtRest, grown_by};
-ghost use Rattle.rs_turn.specs.Plays.{Draws, Books, Passes, Sees, Numbers, Counts, Adopts, Looks, at_stage, parted, informed, spent};
-ghost use Rattle.rs_turn.specs.History.{StartsWith};
+ghost use Rattle.rs_turn.specs.Plays.{DrawsTicket, Books, Passes, Sees, Numbers, CountsLog, Adopts, Looks, at_stage, parted, informed, spent};
+ghost use Rattle.rs_turn.specs.Logs.{StartsWith};
+ghost use Rattle.rs_turn.specs.Origins.{StandsFrom};
 
 use crate::board::{Board, COUNT, MADE, Place, SERVING, TICKET};
 use crate::held::Held;
@@ -16,7 +17,7 @@ pub(crate) fn draw<V: Held>(board: &Board<V>, place: &mut Place<V>) -> u64
     requires place { IsPlaceOf board.now.table_id place.old }
     requires rest { IsAtRest place.old }
     ensures table { place.new.table_id ≡ place.old.table_id }
-    ensures drawn { Draws place.old.me result place.new.me }
+    ensures drawn { DrawsTicket place.old.me result place.new.me }
 {
     board.fetch_add::<Draw>(place, TICKET, 1)
 }
@@ -26,7 +27,7 @@ pub(crate) fn look<V: Held>(board: &Board<V>, place: &mut Place<V>) -> u64
     requires place { IsPlaceOf board.now.table_id place.old }
     requires waits { (place.old.me.1 ≡ []) × ((t : ℕ) × (place.old.me.0.stage ≡ Waiting t)) }
     ensures table { place.new.table_id ≡ place.old.table_id }
-    ensures looked { Looks (λ b. V.stands b.value) (λ b. V.basis b.value) place.old.me result place.new.me }
+    ensures looked { Looks (λ o b. StandsFrom V.stands V.basis o b.value) place.old.me result place.new.me }
 {
     board.load::<Look>(place, SERVING)
 }
@@ -54,7 +55,7 @@ pub(crate) fn book<E: Told<V::What>, V: Held, D>(
 pub(crate) fn pass<V: Held>(board: &Board<V>, place: &mut Place<V>, value: Box<V, Global>)
     requires place { IsPlaceOf board.now.table_id place.old }
     requires holds { (place.old.me.1 ≡ (0, None) ∷ []) × ((t : ℕ) × (place.old.me.0.stage ≡ Holding t)) }
-    requires value { V.stands value.value place.old.me.0.seen × (Some (V.basis value.value) ≡ place.old.me.0.basis) }
+    requires value { (o : V) × (place.old.me.0.origin ≡ Some o) × StandsFrom V.stands V.basis o value.value place.old.me.0.seen }
     ensures table { place.new.table_id ≡ place.old.table_id }
     ensures passed { Passes place.old.me 0 place.new.me }
 {
@@ -92,7 +93,7 @@ pub(crate) fn count<V: Held>(board: &Board<V>, place: &mut Place<V>) -> u64
     requires place { IsPlaceOf board.now.table_id place.old }
     requires rest { IsAtRest place.old }
     ensures table { place.new.table_id ≡ place.old.table_id }
-    ensures counted { Counts place.old.me result place.new.me }
+    ensures counted { CountsLog V.stands place.old.me result place.new.me }
 {
     board.load::<Count>(place, COUNT)
 }

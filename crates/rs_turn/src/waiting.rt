@@ -1,8 +1,9 @@
 //! Waiting for the turn.
 ghost use Rattle.std.specs.Prelude.{◌≡◌, ℕ, ◌%◌, ◌^◌, []};
 ghost use Rattle.rs_turn.specs.declared.board.Stage.TheVariants.{Waiting};
+ghost use Rattle.rs_turn.specs.Origins.{StandsFrom};
 ghost use Rattle.rs_turn.specs.Places.{IsPlaceOf, IsAtRest, HasTaken};
-ghost use Rattle.rs_turn.specs.Plays.{Takes};
+ghost use Rattle.rs_turn.specs.Plays.{TakesValue};
 
 use crate::board::{Board, Place, SERVING};
 use crate::held::Held;
@@ -19,7 +20,7 @@ fn wait<V: Held, R: Wait>(rt: &R, board: &Board<V>, place: &mut Place<V>, ticket
     requires place { IsPlaceOf board.now.table_id place.old }
     requires waits { (place.old.me.1 ≡ []) × ((t : ℕ) × (place.old.me.0.stage ≡ Waiting t) × (ticket ≡ t % 2 ^ 64)) }
     ensures table { place.new.table_id ≡ place.old.table_id }
-    ensures taken { (t : ℕ) × Takes (λ b. V.stands b.value) (λ b. V.basis b.value) place.old.me.0 t place.new.me }
+    ensures taken { (t : ℕ) × TakesValue (λ o b. StandsFrom V.stands V.basis o b.value) place.old.me.0 t place.new.me }
 {
     let mut looks = 0;
     for _ in rt.forever() {
@@ -46,7 +47,7 @@ pub(crate) fn take<V: Held, R: Wait>(
     requires place { IsPlaceOf board.now.table_id place.old }
     requires rest { IsAtRest place.old }
     ensures table { place.new.table_id ≡ place.old.table_id }
-    ensures taken { HasTaken (λ b. V.stands b.value) (λ b. V.basis b.value) place.old.me.0 result place.new.me }
+    ensures taken { HasTaken (λ o b. StandsFrom V.stands V.basis o b.value) place.old.me.0 result place.new.me }
 {
     let ticket = draw(board, place);
     wait(rt, board, place, ticket);
