@@ -28,5 +28,3 @@ pub use rs_path::{Bytes, NoMemory};
 pub use sink::{Sink, SinkFault, write_all};
 pub use source::{Source, SourceFault};
 
-#[cfg(test)]
-mod tests;

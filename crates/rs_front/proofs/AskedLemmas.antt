@@ -15,7 +15,7 @@ use Rattle.rs_rules.specs.declared.pass.Pass.{Pass}
 use Rattle.rs_rules.specs.declared.request.Request.TheVariants.{Store}
 use Rattle.rs_rules.specs.Requests.{is_short_for}
 use Rattle.rs_wire.specs.declared.field.Field.{Field}
-use Rattle.rs_wire.specs.declared.limits.TheConstants.{BODY_LIMIT}
+use Rattle.rs_path.specs.Limits.{max_body}
 use Rattle.rs_wire.specs.declared.message.RequestMessage.{RequestMessage}
 use Rattle.rs_front.specs.declared.account.Account.{Account}
 use Rattle.rs_front.specs.declared.asked.Asked.{Asked}
@@ -155,13 +155,13 @@ served_by S T (Desk user r) all served = all user served
 served_by S T Preflight all served = served
 served_by S T (Refused refusal) all served = served
 
-is_short_call : (method : Method) (body : List ℕ) → length body ≤ BODY_LIMIT → is_short_for method body ≡ true
+is_short_call : (method : Method) (body : List ℕ) → length body ≤ max_body → is_short_for method body ≡ true
 is_short_call Get body short = refl
 is_short_call Head body short = refl
 is_short_call Put body short = grind (arith, nat_tests, short)
 is_short_call Delete body short = refl
 
-target_short : (m : RequestMessage) (target : Target) (verb : Verb) → length m.body ≤ BODY_LIMIT → IsShort (asked_there m target verb)
+target_short : (m : RequestMessage) (target : Target) (verb : Verb) → length m.body ≤ max_body → IsShort (asked_there m target verb)
 target_short m Server verb short = tt
 target_short m (Storage user) verb short =
     by_path IsShort m user tt (λ refusal. tt) (λ method path p x y kind. is_short_call method m.body short) verb (result_ok (target_reading (path_text (path_part m.target))))
@@ -170,7 +170,7 @@ target_short m (Grant user) verb short = tt
 target_short m Nothing verb short = tt
 
 -- the body that it brings is as short as the message's
-pub asked_is_short : (accounts : List Account) (m : RequestMessage) → length m.body ≤ BODY_LIMIT → IsShort (asked_of accounts m)
+pub asked_is_short : (accounts : List Account) (m : RequestMessage) → length m.body ≤ max_body → IsShort (asked_of accounts m)
 asked_is_short accounts m short =
     let target = target_of accounts (path_part m.target) in
     let verb = verb_of m.method in

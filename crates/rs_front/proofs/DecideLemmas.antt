@@ -9,7 +9,7 @@ use Rattle.rs_rules.specs.declared.desk.DeskFault.{DeskFault}
 use Rattle.rs_rules.specs.declared.desk.DeskFault.TheVariants.{NoMemory}
 use Rattle.rs_rules.specs.Histories.{History, up_to}
 use Rattle.rs_rules.specs.Answers.{answer}
-use Rattle.rs_rules.specs.Growth.{Grows, Failed, Turned, TurnedBy, is_store_failed}
+use Rattle.rs_rules.specs.Growth.{Grows, AddsNothing, Turned, TurnedBy, is_store_failed}
 use Rattle.rs_front.specs.declared.answer.Answer.TheVariants.{Decided}
 use Rattle.rs_front.specs.declared.answer.Answer.TheVariants as told
 use Rattle.rs_front.specs.declared.asked.Asked.TheVariants.{Desk, Preflight, Refused}
@@ -64,7 +64,7 @@ unfolding users_with
 turned_by true old quota me user now alone r turn before after is later turned = record {
   outcome = unkept;
   goes_on = (
-    subst (λ (h : History). Failed (old user) h (me user) alone) (sym (with_history-same old user now)) turned.nothing,
+    subst (λ (h : History). AddsNothing (old user) h (me user) alone) (sym (with_history-same old user now)) turned.nothing,
     with_history-other old user now,
   );
   unkept = turned.rose;
@@ -100,7 +100,7 @@ unfolding users_with
 turned_err old quota me user now alone r NoMemory before after later turned e = record {
   outcome = starved;
   goes_on = (
-    subst (λ (h : History). Failed (old user) h (me user) alone) (sym (with_history-same old user now)) turned,
+    subst (λ (h : History). AddsNothing (old user) h (me user) alone) (sym (with_history-same old user now)) turned,
     with_history-other old user now,
   );
   unkept = omega (arith, later);

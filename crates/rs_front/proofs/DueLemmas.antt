@@ -3,7 +3,8 @@ use Rattle.std.proofs.Common.{◌≡◌, ℕ, zero, suc, ◌+◌, ◌-◌, ◌^�
 use Rattle.std.specs.Prelude.{◌≢◌, count_by}
 use Rattle.std.proofs.lemmas.List.Sums.{sum_by-append}
 use Rattle.std.proofs.lemmas.List.{append_assoc, take-append-le, append-nil}
-use Rattle.rs_rules.specs.declared.log_entry.LogEntry.{LogEntry}
+use Rattle.rs_path.specs.declared.log_entry.LogEntry.{LogEntry}
+use Rattle.rs_record.specs.declared.records.Record.{Record}
 use Rattle.rs_rules.specs.Histories.{Base, History, len, up_to, with_entries, IsFront}
 use Rattle.rs_rules.specs.Answers.{answer, taken, entry_of}
 use Rattle.rs_rules.specs.declared.request.Request.{Request}
@@ -21,13 +22,15 @@ use Rattle.rs_front.specs.Due.{Users, Outcome, answered, unkept, plain, starved,
 -- ---- histories that go on
 
 pub front_refl : (h : History) → IsFront h h
-front_refl h = record { same = refl; rest = []; goes_on = sym (append-nil h.entries) }
+front_refl h = record { same = refl; entries = ([], sym (append-nil h.entries)) }
 
 pub front_trans : (a b c : History) → IsFront a b → IsFront b c → IsFront a c
 front_trans a b c first second = record {
   same = second.same ∙ first.same;
-  rest = first.rest ++ second.rest;
-  goes_on = second.goes_on ∙ ap (λ (l : List LogEntry). l ++ second.rest) first.goes_on ∙ append_assoc a.entries first.rest second.rest;
+  entries = (
+    first.entries.0 ++ second.entries.0,
+    second.entries.1 ∙ ap (λ (l : List (LogEntry Record)). l ++ second.entries.0) first.entries.1 ∙ append_assoc a.entries first.entries.0 second.entries.0,
+  );
 }
 
 -- a point of a front is the same point of the whole
@@ -35,8 +38,8 @@ up_to_stays : (n : ℕ) (a b : History) → IsFront a b → n ≤ len a → up_t
 up_to_stays n a b front within =
     let count : n - a.base.cut ≤ length a.entries = omega (arith, within) in
     ap (λ (base : Base). record { base = base; entries = take (n - base.cut) b.entries }) front.same
-    ∙ ap (λ (es : List LogEntry). record { base = a.base; entries = es })
-    (ap (take (n - a.base.cut)) front.goes_on ∙ take-append-le (n - a.base.cut) a.entries front.rest count)
+    ∙ ap (λ (es : List (LogEntry Record)). record { base = a.base; entries = es })
+    (ap (take (n - a.base.cut)) front.entries.1 ∙ take-append-le (n - a.base.cut) a.entries front.entries.0 count)
 
 abbrev pub IsLater : (ℕ → History) → (ℕ → History) → Type 0
 IsLater old new = (user : ℕ) → IsFront (old user) (new user)
@@ -53,7 +56,7 @@ same_number (suc a) (suc b) = elim (same_number a b) [
 grows_later : (old new : History) (quota me : ℕ) (r : Request) (reply : Reply) (front : ℕ) → Grows old new quota me r reply front → IsFront old new
 grows_later old new quota me r reply front grows =
     let more = entry_of me (taken (up_to front new) quota r) in
-    let added : IsFront (up_to front new) (with_entries (up_to front new) more) = record { same = refl; rest = more; goes_on = refl } in
+    let added : IsFront (up_to front new) (with_entries (up_to front new) more) = record { same = refl; entries = (more, refl) } in
     front_trans old (up_to front new) new grows.before (subst (IsFront (up_to front new)) (sym grows.added) added)
 
 -- one user's goes on, and the others' stay

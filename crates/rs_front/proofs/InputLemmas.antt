@@ -12,15 +12,15 @@ use Rattle.rs_wire.specs.declared.fault.NextFault.TheVariants.{Wire}
 use Rattle.rs_wire.specs.declared.fault.WireFault.{WireFault}
 use Rattle.rs_wire.specs.declared.fault.WireWhy.TheVariants.{Truncated}
 use Rattle.rs_wire.specs.Bodies.{fault_at}
-use Rattle.rs_wire.specs.declared.limits.TheConstants.{MESSAGE_LIMIT}
+use Rattle.rs_wire.specs.Limits.{max_message}
 use Rattle.rs_wire.specs.declared.message.RequestMessage.{RequestMessage}
 use Rattle.rs_wire.specs.declared.message.Step.TheVariants.{More, Interim, Message}
 use Rattle.rs_wire.specs.declared.reader.RequestReader.{RequestReader}
 use Rattle.rs_wire.specs.Division.{message_at, fed_next}
 use Rattle.rs_wire.specs.Laws.{fed_at, awaits}
 use Rattle.rs_wire.specs.Readers.{Stands, fed_count}
-use Rattle.rs_wire.specs.Readings.{Fed, Answer, more, interim, message, fault, answer, step_of, fed_after, fed_with, finish_of}
-use Rattle.rs_wire.specs.Taken.{BeginsWith}
+use Rattle.rs_wire.specs.Readings.{Fed, Answer, more, interim, message, fault, next_of, step_of, fed_after, fed_with, finish_of}
+use Rattle.rs_wire.specs.Taken.{BeginsWithRequest}
 use Rattle.rs_front.specs.declared.input.Next.{Next}
 use Rattle.rs_front.specs.declared.input.Next.TheVariants as next
 use Rattle.rs_face.specs.Courses.{Course}
@@ -29,7 +29,7 @@ use Rattle.rs_front.specs.Inputs.{ending, ComesOn, most_read, ReadsOn, Comes, Re
 use Rattle.rs_front.specs.ReplyBytes.{interim_bytes}
 use Rattle.rs_front.specs.Rests.{after_last, interim_by, pending}
 
--- ---- what a step says of the answer
+-- ---- what a step says of the next_of
 
 more_of : (a : Answer) → step_of a ≡ Ok More → a ≡ more
 more_of more e = refl
@@ -86,12 +86,12 @@ read_more place bytes told r r' source left now piece so_far consumed stands = r
 
 -- the law of what `next` gives
 abbrev pub NextLaw : Type 0
-NextLaw = (fed : Fed) (m : RequestMessage) → step_of (answer fed) ≡ Ok (Message m)
-    → (next : ℕ) × (message_at fed.place fed.bytes ≡ Some (m, next)) × (fed_after fed (answer fed) ≡ fed_next fed next)
+NextLaw = (fed : Fed) (m : RequestMessage) → step_of (next_of fed) ≡ Ok (Message m)
+    → (next : ℕ) × (message_at fed.place fed.bytes ≡ Some (m, next)) × (fed_after fed (next_of fed) ≡ fed_next fed next)
 
 pub came_message : NextLaw → (place : ℕ) (bytes : List ℕ) (told : Bool) (r : RequestReader) (source : Course (List ℕ)) (read : List ℕ) (m : RequestMessage)
-    → Consumes source.old source.new read → step_of (answer (fed_at place (bytes ++ read) told)) ≡ Ok (Message m)
-    → Stands r (fed_after (fed_at place (bytes ++ read) told) (answer (fed_at place (bytes ++ read) told)))
+    → Consumes source.old source.new read → step_of (next_of (fed_at place (bytes ++ read) told)) ≡ Ok (Message m)
+    → Stands r (fed_after (fed_at place (bytes ++ read) told) (next_of (fed_at place (bytes ++ read) told)))
     → ReadsOn place bytes told r source (Some (next.Message m))
 came_message law place bytes told r source read m consumed is stands =
     let given = law (fed_at place (bytes ++ read) told) m is in
@@ -102,11 +102,11 @@ came_message law place bytes told r source read m consumed is stands =
     }
 
 pub came_interim : (place : ℕ) (bytes : List ℕ) (told : Bool) (r : RequestReader) (source : Course (List ℕ)) (read : List ℕ)
-    → Consumes source.old source.new read → step_of (answer (fed_at place (bytes ++ read) told)) ≡ Ok Interim
-    → Stands r (fed_after (fed_at place (bytes ++ read) told) (answer (fed_at place (bytes ++ read) told)))
+    → Consumes source.old source.new read → step_of (next_of (fed_at place (bytes ++ read) told)) ≡ Ok Interim
+    → Stands r (fed_after (fed_at place (bytes ++ read) told) (next_of (fed_at place (bytes ++ read) told)))
     → ReadsOn place bytes told r source None
 came_interim place bytes told r source read consumed is stands =
-    let due = interim_is (answer (fed_at place (bytes ++ read) told)) is in
+    let due = interim_is (next_of (fed_at place (bytes ++ read) told)) is in
     record {
       read = read;
       consumed = consumed;
@@ -114,12 +114,12 @@ came_interim place bytes told r source read consumed is stands =
     }
 
 pub came_fault : (place : ℕ) (bytes : List ℕ) (told : Bool) (r : RequestReader) (source : Course (List ℕ)) (read : List ℕ) (f : WireFault)
-    → Consumes source.old source.new read → step_of (answer (fed_at place (bytes ++ read) told)) ≡ Err (Wire f)
+    → Consumes source.old source.new read → step_of (next_of (fed_at place (bytes ++ read) told)) ≡ Err (Wire f)
     → ReadsOn place bytes told r source (Some (next.Bad f))
 came_fault place bytes told r source read f consumed is = record {
   read = read;
   consumed = consumed;
-  comes = inl (fault_of (answer (fed_at place (bytes ++ read) told)) f is);
+  comes = inl (fault_of (next_of (fed_at place (bytes ++ read) told)) f is);
 }
 
 -- nothing is known where memory was wanted
@@ -128,45 +128,45 @@ pub came_nothing : (place : ℕ) (bytes : List ℕ) (told : Bool) (r : RequestRe
 came_nothing place bytes told r source read consumed = record { read = read; consumed = consumed; comes = tt }
 
 -- the reader waits for more
-pub waits : (place : ℕ) (bytes : List ℕ) (told : Bool) (r : RequestReader) → step_of (answer (fed_at place bytes told)) ≡ Ok More
-    → Stands r (fed_after (fed_at place bytes told) (answer (fed_at place bytes told)))
-    → (answer (fed_at place bytes told) ≡ more) × Stands r (fed_at place bytes told)
+pub waits : (place : ℕ) (bytes : List ℕ) (told : Bool) (r : RequestReader) → step_of (next_of (fed_at place bytes told)) ≡ Ok More
+    → Stands r (fed_after (fed_at place bytes told) (next_of (fed_at place bytes told)))
+    → (next_of (fed_at place bytes told) ≡ more) × Stands r (fed_at place bytes told)
 waits place bytes told r is stands =
-    let due = more_of (answer (fed_at place bytes told)) is in
+    let due = more_of (next_of (fed_at place bytes told)) is in
     (due, subst (λ (a : Answer). Stands r (fed_after (fed_at place bytes told) a)) due stands)
 
 -- ---- the next message
 
 -- what is known of a request before it is whole, and of one that was read
 pub record Laws : Type 0 where
-  pub stays : (place : ℕ) (bytes after : List ℕ) → answer (fed_at place bytes false) ≡ interim → answer (fed_at place (bytes ++ after) false) ≡ interim
-  pub told : (place : ℕ) (bytes : List ℕ) → (answer (fed_at place bytes false) ≡ interim) ⊎ (answer (fed_at place bytes true) ≡ answer (fed_at place bytes false))
-  pub cut : (place : ℕ) (bytes : List ℕ) → answer (fed_at place bytes false) ≡ interim → finish_of (fed_at place bytes true) ≢ Ok tt
-  pub begins : (place : ℕ) (bytes : List ℕ) (m : RequestMessage) (next : ℕ) → message_at place bytes ≡ Some (m, next) → BeginsWith place bytes m next
-  pub given : (fed : Fed) (m : RequestMessage) (next : ℕ) → fed.fault ≡ None → BeginsWith fed.place fed.bytes m next
-      → answer fed ≡ cond (awaits m && not fed.told) interim (message m next)
+  pub stays : (place : ℕ) (bytes after : List ℕ) → next_of (fed_at place bytes false) ≡ interim → next_of (fed_at place (bytes ++ after) false) ≡ interim
+  pub told : (place : ℕ) (bytes : List ℕ) → (next_of (fed_at place bytes false) ≡ interim) ⊎ (next_of (fed_at place bytes true) ≡ next_of (fed_at place bytes false))
+  pub cut : (place : ℕ) (bytes : List ℕ) → next_of (fed_at place bytes false) ≡ interim → finish_of (fed_at place bytes true) ≢ Ok tt
+  pub begins : (place : ℕ) (bytes : List ℕ) (m : RequestMessage) (next : ℕ) → message_at place bytes ≡ Some (m, next) → BeginsWithRequest place bytes m next
+  pub given : (fed : Fed) (m : RequestMessage) (next : ℕ) → fed.fault ≡ None → BeginsWithRequest fed.place fed.bytes m next
+      → next_of fed ≡ cond (awaits m && not fed.told) interim (message m next)
 
 -- whether the interim reply is told plays no part at the end
 finish_same : (place : ℕ) (bytes : List ℕ) → finish_of (fed_at place bytes false) ≡ finish_of (fed_at place bytes true)
 unfolding finish_of
 finish_same place bytes = refl
 
--- where the answer isn't the interim reply, it is the same once that was told
-told_same : Laws → (place : ℕ) (bytes : List ℕ) (a : Answer) → answer (fed_at place bytes false) ≡ a → a ≢ interim → after_last place bytes ≡ a
+-- where the next_of isn't the interim reply, it is the same once that was told
+told_same : Laws → (place : ℕ) (bytes : List ℕ) (a : Answer) → next_of (fed_at place bytes false) ≡ a → a ≢ interim → after_last place bytes ≡ a
 told_same laws place bytes a is other = elim (laws.told place bytes) [
   | inl due ↦ absurd (other (sym is ∙ due))
   | inr same ↦ same ∙ is
 ]
 
-none_pending : (place : ℕ) (bytes : List ℕ) (a : Answer) → answer (fed_at place bytes false) ≡ a → interim_by a ≡ [] → [] ≡ pending place bytes
+none_pending : (place : ℕ) (bytes : List ℕ) (a : Answer) → next_of (fed_at place bytes false) ≡ a → interim_by a ≡ [] → [] ≡ pending place bytes
 none_pending place bytes a is none = sym (ap interim_by is ∙ none)
 
-interim_pending : (place : ℕ) (bytes : List ℕ) → answer (fed_at place bytes false) ≡ interim → interim_bytes ≡ pending place bytes
+interim_pending : (place : ℕ) (bytes : List ℕ) → next_of (fed_at place bytes false) ≡ interim → interim_bytes ≡ pending place bytes
 interim_pending place bytes is = sym (ap interim_by is)
 
 -- a message that was given at once doesn't wait for the interim reply, and one behind that reply does
 given_plain : Laws → (place : ℕ) (rest : List ℕ) (m : RequestMessage) (end : ℕ) → message_at place rest ≡ Some (m, end)
-    → step_of (answer (fed_at place rest false)) ≡ Ok (Message m) → [] ≡ interim_of m
+    → step_of (next_of (fed_at place rest false)) ≡ Ok (Message m) → [] ≡ interim_of m
 given_plain laws place rest m end is step = by_test (awaits m) (sym (ap step_of (laws.given (fed_at place rest false) m end refl (laws.begins place rest m end is))) ∙ step)
   where
     by_test : (b : Bool) → step_of (cond (b && true) interim (message m end)) ≡ Ok (Message m) → [] ≡ cond b interim_bytes []
@@ -174,7 +174,7 @@ given_plain laws place rest m end is step = by_test (awaits m) (sym (ap step_of 
     by_test false e = refl
 
 given_told : Laws → (place : ℕ) (rest : List ℕ) (m : RequestMessage) (end : ℕ) → message_at place rest ≡ Some (m, end)
-    → answer (fed_at place rest false) ≡ interim → interim_bytes ≡ interim_of m
+    → next_of (fed_at place rest false) ≡ interim → interim_bytes ≡ interim_of m
 given_told laws place rest m end is due = by_test (awaits m) (sym (laws.given (fed_at place rest false) m end refl (laws.begins place rest m end is)) ∙ due)
   where
     by_test : (b : Bool) → cond (b && true) interim (message m end) ≡ interim → interim_bytes ≡ cond b interim_bytes []
@@ -208,7 +208,7 @@ comes_plain laws place rest r source sink (next.NotWritten e) wrote comes = absu
 
 -- the interim reply was written
 comes_told : Laws → (place : ℕ) (rest : List ℕ) (r : RequestReader) (source sink : Course (List ℕ)) (n : Next) → Appends sink.old sink.new interim_bytes
-    → answer (fed_at place rest false) ≡ interim → ComesOn place rest true r source (Some n) → Comes place rest r source sink n
+    → next_of (fed_at place rest false) ≡ interim → ComesOn place rest true r source (Some n) → Comes place rest r source sink n
 comes_told laws place rest r source sink (next.Message m) wrote due comes =
     (comes.0, comes.1, comes.3, subst (Appends sink.old sink.new) (given_told laws place rest m comes.0 comes.1 due) wrote)
 comes_told laws place rest r source sink next.End wrote due comes = absurd (laws.cut place rest due comes.2)
@@ -281,16 +281,16 @@ reads_told laws place bytes mid r source left now sink came later wrote due read
 
 -- the law of what isn't whole
 abbrev pub ShortLaw : Type 0
-ShortLaw = (fed : Fed) → answer fed ≡ more → length fed.bytes < MESSAGE_LIMIT
+ShortLaw = (fed : Fed) → next_of fed ≡ more → length fed.bytes < max_message
 
 -- a reader that waits was fed less than a message more than at first
 pub waits_short : ShortLaw → (place : ℕ) (bytes : List ℕ) (told : Bool) (first r r' : RequestReader) (source : Course (List ℕ)) → Stands first (fed_at place bytes told)
-    → (so_far : ReadSoFar place bytes told r source) → step_of (answer (fed_at place (bytes ++ so_far.read) told)) ≡ Ok More
-    → Stands r' (fed_after (fed_at place (bytes ++ so_far.read) told) (answer (fed_at place (bytes ++ so_far.read) told)))
-    → fed_count r' < fed_count first + MESSAGE_LIMIT
+    → (so_far : ReadSoFar place bytes told r source) → step_of (next_of (fed_at place (bytes ++ so_far.read) told)) ≡ Ok More
+    → Stands r' (fed_after (fed_at place (bytes ++ so_far.read) told) (next_of (fed_at place (bytes ++ so_far.read) told)))
+    → fed_count r' < fed_count first + max_message
 waits_short law place bytes told first r r' source stands so_far is now =
     let due = waits place (bytes ++ so_far.read) told r' is now in
-    let short : length (bytes ++ so_far.read) < MESSAGE_LIMIT = law (fed_at place (bytes ++ so_far.read) told) due.0 in
+    let short : length (bytes ++ so_far.read) < max_message = law (fed_at place (bytes ++ so_far.read) told) due.0 in
     let before : fed_count first ≡ place + length bytes = count_of first (fed_at place bytes told) stands in
     let after : fed_count r' ≡ place + length (bytes ++ so_far.read) = count_of r' (fed_at place (bytes ++ so_far.read) told) due.1 in
     omega (arith, short, before, after)
@@ -305,7 +305,7 @@ piece_counted place bytes told r r' piece before after =
 
 -- what was read, and then the end of the input
 pub came_end : (place : ℕ) (bytes : List ℕ) (told : Bool) (r : RequestReader) (source : Course (List ℕ)) (read : List ℕ) (result : Result (Unit {0}) WireFault) (came : Next)
-    → Consumes source.old source.new read → answer (fed_at place (bytes ++ read) told) ≡ more → IsAtEnd source.new
+    → Consumes source.old source.new read → next_of (fed_at place (bytes ++ read) told) ≡ more → IsAtEnd source.new
     → finish_of (fed_at place (bytes ++ read) told) ≡ result → came ≡ ending result → ReadsOn place bytes told r source (Some came)
 came_end place bytes told r source read (Ok nothing) came consumed is end finish same = record {
   read = read;
@@ -319,7 +319,7 @@ came_end place bytes told r source read (Err f) came consumed is end finish same
 }
 
 -- reading on comes nearer to its end
-pub nearer : (first before mid after : ℕ) (piece : List ℕ) → mid ≡ before → mid < first + MESSAGE_LIMIT → after ≡ mid + length piece → 0 < length piece
+pub nearer : (first before mid after : ℕ) (piece : List ℕ) → mid ≡ before → mid < first + max_message → after ≡ mid + length piece → 0 < length piece
     → first + most_read - after < first + most_read - before
 nearer first before mid after piece same short counted some = omega (arith, same, short, counted, some)
 
@@ -328,12 +328,12 @@ pub consumed_still : (a b c : Option (List ℕ)) (read piece : List ℕ) → Con
 consumed_still a b c read piece first second none =
     subst (Consumes a c) (ap (λ (l : List ℕ). read ++ l) none ∙ append-nil read) (Consumes-trans a b c read piece first second)
 
-pub laws_of : ((place : ℕ) (bytes after : List ℕ) → answer (fed_at place bytes false) ≡ interim → answer (fed_at place (bytes ++ after) false) ≡ interim)
-    → ((place : ℕ) (bytes : List ℕ) → (answer (fed_at place bytes false) ≡ interim) ⊎ (answer (fed_at place bytes true) ≡ answer (fed_at place bytes false)))
-    → ((place : ℕ) (bytes : List ℕ) (told : Bool) → answer (fed_at place bytes false) ≡ interim → finish_of (fed_at place bytes told) ≡ Err (fault_at Truncated (place + length bytes)))
-    → ((place : ℕ) (bytes : List ℕ) (m : RequestMessage) (next : ℕ) → (message_at place bytes ≡ Some (m, next)) ↔ BeginsWith place bytes m next)
-    → ((fed : Fed) (m : RequestMessage) (next : ℕ) → fed.fault ≡ None → BeginsWith fed.place fed.bytes m next
-    → answer fed ≡ cond (awaits m && not fed.told) interim (message m next)) → Laws
+pub laws_of : ((place : ℕ) (bytes after : List ℕ) → next_of (fed_at place bytes false) ≡ interim → next_of (fed_at place (bytes ++ after) false) ≡ interim)
+    → ((place : ℕ) (bytes : List ℕ) → (next_of (fed_at place bytes false) ≡ interim) ⊎ (next_of (fed_at place bytes true) ≡ next_of (fed_at place bytes false)))
+    → ((place : ℕ) (bytes : List ℕ) (told : Bool) → next_of (fed_at place bytes false) ≡ interim → finish_of (fed_at place bytes told) ≡ Err (fault_at Truncated (place + length bytes)))
+    → ((place : ℕ) (bytes : List ℕ) (m : RequestMessage) (next : ℕ) → (message_at place bytes ≡ Some (m, next)) ↔ BeginsWithRequest place bytes m next)
+    → ((fed : Fed) (m : RequestMessage) (next : ℕ) → fed.fault ≡ None → BeginsWithRequest fed.place fed.bytes m next
+    → next_of fed ≡ cond (awaits m && not fed.told) interim (message m next)) → Laws
 laws_of stays told begun one spelled = record {
   stays = stays;
   told = told;

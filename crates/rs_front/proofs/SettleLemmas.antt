@@ -2,14 +2,16 @@
 use Rattle.std.proofs.Common.{◌≡◌, ℕ, ◌+◌, ◌-◌, ◌≤◌, min, Bool, true, List, [], ◌++◌, Option, Some, None, Result, Ok, Err, IfOk, OnErr, refl, sym, ◌∙◌, ap, subst, arith, append-nil, length, take}
 use Rattle.std.proofs.lemmas.List.{length-append, length-take, nil_from_length}
 use Rattle.rs_face.specs.Courses.{Course, Writes}
-use Rattle.rs_rules.specs.declared.log_entry.LogEntry.{LogEntry}
+use Rattle.rs_path.specs.declared.log_entry.LogEntry.{LogEntry}
+use Rattle.rs_record.specs.declared.records.Record.{Record}
 use Rattle.rs_rules.specs.declared.reply.Reply.{Reply}
 use Rattle.rs_rules.specs.declared.reply.Reply.TheVariants.{Found, Folder, Stored, Removed, Same, NoToken, BadToken, Forbidden, FolderWrite, Clash, Absent, Unmet, RecordsFull, OverQuota, FolderFull, StoreFailed, Granted, TokenTaken, Revoked, NotGranted}
 use Rattle.rs_rules.specs.declared.request.Request.{Request}
 use Rattle.rs_rules.specs.declared.request.Request.TheVariants.{Store, Grant, Revoke}
 use Rattle.rs_rules.specs.Histories.{Base, History, len, up_to, with_entries, IsFront}
 use Rattle.rs_rules.specs.Answers.{answer, taken, record_of, entry_of}
-use Rattle.rs_rules.specs.Growth.{Grows, Failed, own}
+use Rattle.rs_path.specs.Logs.{own}
+use Rattle.rs_rules.specs.Growth.{Grows, AddsNothing}
 use Rattle.rs_front.specs.declared.answer.Answer.{Answer}
 use Rattle.rs_front.specs.declared.answer.Answer.TheVariants.{Decided}
 use Rattle.rs_front.specs.declared.asked.Asked.{Asked}
@@ -24,10 +26,10 @@ use Rattle.rs_front.specs.Due.{Users, Outcome, answered, unkept, plain, starved,
 use Rattle.rs_front.specs.Settling.{Decides, Settles, RepliesTo}
 
 -- a history goes on to itself
-stays : (h : History) (me : ℕ) (alone : Bool) → Failed h h me alone
+stays : (h : History) (me : ℕ) (alone : Bool) → AddsNothing h h me alone
 stays h me alone = record {
   others = record {
-    before = record { same = refl; rest = []; goes_on = sym (append-nil h.entries) };
+    before = record { same = refl; entries = ([], sym (append-nil h.entries)) };
     mine = refl;
   };
   still = λ is. refl;
@@ -82,34 +84,34 @@ same_as_front : (old new : History) (quota me : ℕ) (r : Request) (reply : Repl
     → entry_of me (taken (up_to front new) quota r) ≡ [] → new ≡ up_to front new
 same_as_front old new quota me r reply front grows nothing =
     grows.added ∙ ap (with_entries (up_to front new)) nothing
-    ∙ ap (λ (es : List LogEntry). record { base = new.base; entries = es }) (append-nil (up_to front new).entries)
+    ∙ ap (λ (es : List (LogEntry Record)). record { base = new.base; entries = es }) (append-nil (up_to front new).entries)
 
 -- entries that are no more than those at the front are those
-no_more : (entries all rest : List LogEntry) (k : ℕ) → take k all ≡ entries ++ rest → k ≡ length entries → take k all ≡ entries
+no_more : (entries all rest : List (LogEntry Record)) (k : ℕ) → take k all ≡ entries ++ rest → k ≡ length entries → take k all ≡ entries
 no_more entries all rest k is short =
     let within : length (take k all) ≡ min k (length all) = length-take k all in
-    let whole : length (take k all) ≡ length entries + length rest = ap (λ (l : List LogEntry). length l) is ∙ length-append entries rest in
-    is ∙ ap (λ (l : List LogEntry). entries ++ l) (nil_from_length rest (omega (arith, within, whole, short))) ∙ append-nil entries
+    let whole : length (take k all) ≡ length entries + length rest = ap (λ (l : List (LogEntry Record)). length l) is ∙ length-append entries rest in
+    is ∙ ap (λ (l : List (LogEntry Record)). entries ++ l) (nil_from_length rest (omega (arith, within, whole, short))) ∙ append-nil entries
 
 -- and where the front is the old length, it is the old history
 pub still_at_front : (old new : History) (front : ℕ) → IsFront old (up_to front new) → front ≡ len old → up_to front new ≡ old
 still_at_front old new front before is =
     let cut : new.base.cut ≡ old.base.cut = ap (λ (b : Base). b.cut) before.same in
     let entries : take (front - new.base.cut) new.entries ≡ old.entries =
-    no_more old.entries new.entries before.rest (front - new.base.cut) before.goes_on (omega (arith, cut, is)) in
+    no_more old.entries new.entries before.entries.0 (front - new.base.cut) before.entries.1 (omega (arith, cut, is)) in
     ap (λ (b : Base). record { base = b; entries = take (front - new.base.cut) new.entries }) before.same
-    ∙ ap (λ (es : List LogEntry). record { base = old.base; entries = es }) entries
+    ∙ ap (λ (es : List (LogEntry Record)). record { base = old.base; entries = es }) entries
 
 -- such a history went on by others' alone, and where there are none, not at all
 grows_by_none : (old new : History) (quota me : ℕ) (alone : Bool) (r : Request) (reply : Reply) (front : ℕ) → Grows old new quota me r reply front
-    → (alone ≡ true → front ≡ len old) → taken (up_to front new) quota r ≡ None → Failed old new me alone
+    → (alone ≡ true → front ≡ len old) → taken (up_to front new) quota r ≡ None → AddsNothing old new me alone
 grows_by_none old new quota me alone r reply front grows now none =
     let nothing : entry_of me (taken (up_to front new) quota r) ≡ [] = ap (entry_of me) none in
     let same = same_as_front old new quota me r reply front grows nothing in
     record {
       others = record {
         before = subst (λ (h : History). IsFront old h) (sym same) grows.before;
-        mine = grows.mine ∙ ap (λ (es : List LogEntry). own me old.entries ++ es) nothing ∙ append-nil (own me old.entries);
+        mine = grows.mine ∙ ap (λ (es : List (LogEntry Record)). own me old.entries ++ es) nothing ∙ append-nil (own me old.entries);
       };
       still = λ is. same ∙ still_at_front old new front grows.before (now is);
     }

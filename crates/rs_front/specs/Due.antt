@@ -3,7 +3,7 @@ use Rattle.std.specs.Prelude.{◌≡◌, ◌≢◌, ℕ, ◌+◌, ◌^◌, ◌-�
 use Rattle.rs_rules.specs.declared.reply.Reply.TheVariants.{StoreFailed}
 use Rattle.rs_rules.specs.Histories.{History, len, up_to}
 use Rattle.rs_rules.specs.Answers.{answer}
-use Rattle.rs_rules.specs.Growth.{Grows, Failed}
+use Rattle.rs_rules.specs.Growth.{Grows, AddsNothing}
 use Rattle.rs_wire.specs.declared.message.RequestMessage.{RequestMessage}
 use Rattle.rs_wire.specs.Laws.{awaits}
 use Rattle.rs_front.specs.declared.account.Account.{Account}
@@ -85,9 +85,9 @@ abbrev pub GoesOn : Users → Asked → Outcome → (ℕ → History) → (ℕ �
 GoesOn users (asked.Desk user r) (answered n) old new =
     Grows (old user) (new user) (users.quota user) (users.me user) r (answer (up_to n (new user)) (users.quota user) r) n
     × (users.alone ≡ true → n ≡ len (old user)) × OthersStay user old new
-GoesOn users (asked.Desk user r) unkept old new = Failed (old user) (new user) (users.me user) users.alone × OthersStay user old new
+GoesOn users (asked.Desk user r) unkept old new = AddsNothing (old user) (new user) (users.me user) users.alone × OthersStay user old new
 GoesOn users (asked.Desk user r) plain old new = ⊥
-GoesOn users (asked.Desk user r) starved old new = Failed (old user) (new user) (users.me user) users.alone × OthersStay user old new
+GoesOn users (asked.Desk user r) starved old new = AddsNothing (old user) (new user) (users.me user) users.alone × OthersStay user old new
 GoesOn users asked.Preflight (answered n) old new = ⊥
 GoesOn users asked.Preflight unkept old new = ⊥
 GoesOn users asked.Preflight plain old new = AllStay old new

@@ -2,13 +2,13 @@
 use Rattle.std.specs.Prelude.{◌≡◌, ℕ, ◌≤◌, List, [], ◌∷◌, ◌++◌, length, map, filter, Option, Some, None, codes}
 use Rattle.std.specs.List.{flat_map}
 use Rattle.rs_wire.specs.declared.field.Field.{Field}
-use Rattle.rs_wire.specs.Names.{is_named}
+use Rattle.rs_wire.specs.Names.{is_field_named}
 use Rattle.rs_front.specs.declared.fields.Occurs.{Occurs}
 use Rattle.rs_front.specs.declared.fields.Occurs.TheVariants.{Never, Once, Often}
 
 -- the values of the fields of that name, in their order
 abbrev pub values_of : List ℕ → List Field → List (List ℕ)
-values_of name fields = map (λ (f : Field). f.value) (filter (is_named name) fields)
+values_of name fields = map (λ (f : Field). f.value) (filter (is_field_named name) fields)
 
 -- the values joined by a comma and a space (RFC 9110, section 5.3), where there is one
 abbrev pub joined : List (List ℕ) → Option (List ℕ)

@@ -5,13 +5,13 @@ use Rattle.rs_face.specs.Causes.{Rose}
 use Rattle.rs_face.specs.Told.{AppendsFront}
 use Rattle.rs_face.specs.declared.sink.SinkFault.TheVariants as SinkFault
 use Rattle.rs_wire.specs.declared.fault.WireFault.{WireFault}
-use Rattle.rs_wire.specs.declared.limits.TheConstants.{MESSAGE_LIMIT}
+use Rattle.rs_wire.specs.Limits.{max_message}
 use Rattle.rs_wire.specs.declared.message.Step.TheVariants.{Message}
 use Rattle.rs_wire.specs.declared.reader.RequestReader.{RequestReader}
 use Rattle.rs_wire.specs.Division.{message_at}
 use Rattle.rs_wire.specs.Laws.{fed_at}
 use Rattle.rs_wire.specs.Readers.{Stands}
-use Rattle.rs_wire.specs.Readings.{Fed, fed_with, more, interim, fault, answer, step_of, finish_of}
+use Rattle.rs_wire.specs.Readings.{Fed, fed_with, more, interim, fault, next_of, step_of, finish_of}
 use Rattle.rs_front.specs.declared.input.Filled.{Filled}
 use Rattle.rs_front.specs.declared.input.Filled.TheVariants.{More, End, Failed, NoMemory}
 use Rattle.rs_front.specs.declared.input.Next.{Next}
@@ -40,22 +40,22 @@ ending (Err f) = next.Bad f
 
 -- what comes next of the bytes from this place on, where the interim reply was told or not: None where it is due
 abbrev pub ComesOn : ℕ → List ℕ → Bool → RequestReader → Course (List ℕ) → Option Next → Type 0
-ComesOn place rest told new source None = (answer (fed_at place rest told) ≡ interim) × Stands new (fed_at place rest true)
+ComesOn place rest told new source None = (next_of (fed_at place rest told) ≡ interim) × Stands new (fed_at place rest true)
 ComesOn place rest told new source (Some (next.Message m)) =
-    (end : ℕ) × (message_at place rest ≡ Some (m, end)) × (step_of (answer (fed_at place rest told)) ≡ Ok (Message m))
+    (end : ℕ) × (message_at place rest ≡ Some (m, end)) × (step_of (next_of (fed_at place rest told)) ≡ Ok (Message m))
     × Stands new (fed_at end (drop (end - place) rest) false)
 ComesOn place rest told new source (Some next.End) =
-    (answer (fed_at place rest told) ≡ more) × IsAtEnd source.new × (finish_of (fed_at place rest told) ≡ Ok tt)
+    (next_of (fed_at place rest told) ≡ more) × IsAtEnd source.new × (finish_of (fed_at place rest told) ≡ Ok tt)
 ComesOn place rest told new source (Some (next.Bad f)) =
-    (answer (fed_at place rest told) ≡ fault f)
-    ⊎ ((answer (fed_at place rest told) ≡ more) × IsAtEnd source.new × (finish_of (fed_at place rest told) ≡ Err f))
-ComesOn place rest told new source (Some next.NotRead) = (answer (fed_at place rest told) ≡ more) × Rose source.before source.now
+    (next_of (fed_at place rest told) ≡ fault f)
+    ⊎ ((next_of (fed_at place rest told) ≡ more) × IsAtEnd source.new × (finish_of (fed_at place rest told) ≡ Err f))
+ComesOn place rest told new source (Some next.NotRead) = (next_of (fed_at place rest told) ≡ more) × Rose source.before source.now
 ComesOn place rest told new source (Some next.NoMemory) = ⊤
 ComesOn place rest told new source (Some (next.NotWritten e)) = ⊥
 
 -- the most bytes that are read on from a place
 abbrev pub most_read : ℕ
-most_read = MESSAGE_LIMIT + 8192
+most_read = max_message + 8192
 
 -- reading on from a place, behind bytes that came before
 pub record ReadsOn (place : ℕ) (bytes : List ℕ) (told : Bool) (new : RequestReader) (source : Course (List ℕ)) (outcome : Option Next) : Type 0 where

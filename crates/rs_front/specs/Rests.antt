@@ -3,12 +3,12 @@ use Rattle.std.specs.Prelude.{◌≡◌, ℕ, ◌⊎◌, true, false, List, [], 
 use Rattle.std.specs.Io.KnownBytes.{IsAtEnd}
 use Rattle.rs_wire.specs.declared.fault.WireFault.{WireFault}
 use Rattle.rs_wire.specs.Laws.{fed_at}
-use Rattle.rs_wire.specs.Readings.{Answer, more, interim, message, fault, answer, finish_of}
+use Rattle.rs_wire.specs.Readings.{Answer, more, interim, message, fault, next_of, finish_of}
 use Rattle.rs_front.specs.ReplyBytes.{interim_bytes}
 
 -- what the bytes from the place on come to, where the interim reply isn't told again
 abbrev pub after_last : ℕ → List ℕ → Answer
-after_last place rest = answer (fed_at place rest true)
+after_last place rest = next_of (fed_at place rest true)
 
 abbrev pub interim_by : Answer → List ℕ
 interim_by more = []
@@ -18,7 +18,7 @@ interim_by (fault f) = []
 
 -- the interim reply to a message that didn't come whole, where its head asks for it
 abbrev pub pending : ℕ → List ℕ → List ℕ
-pending place rest = interim_by (answer (fed_at place rest false))
+pending place rest = interim_by (next_of (fed_at place rest false))
 
 -- the bytes from the place on hold this fault, or are cut short in a message, where a source that has so much left is at its end
 abbrev pub HasFault : Option (List ℕ) → ℕ → List ℕ → WireFault → Type 0

@@ -10,7 +10,7 @@ ghost use Rattle.rs_front.specs.Requests.{octet_stream, kind_of_text, put_kind, 
 use crate::account::Accounts;
 use crate::fields::{Occurs, joined, look_up};
 use crate::pass::read_pass;
-use crate::target::{Target, lists_method, is_taken, path_text, target_of, path_part};
+use crate::target::{Target, is_taken, lists_method, path_part, path_text, target_of};
 use crate::verb::{Verb, verb_of};
 use rs_path::{Kind, NoMemory, Path, PathFault};
 use rs_rules::{Call, Cond, CondFault, Pass, Request};

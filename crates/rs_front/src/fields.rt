@@ -1,7 +1,7 @@
 //! The fields of a request that this server reads.
 
 ghost use Rattle.std.specs.Prelude.{◌≡◌, ◌++◌, ◌∷◌, [], ℕ, List, IfOk, OnOk, option_map};
-ghost use Rattle.rs_wire.specs.Names.{same_name, is_named};
+ghost use Rattle.rs_wire.specs.Names.{same_name, is_field_named};
 ghost use Rattle.rs_front.specs.Fields.{values_of, joined, with_value, Occurring};
 
 use rs_path::NoMemory;
@@ -22,7 +22,7 @@ pub(crate) fn look_up<'a>(fields: &'a [Field], name: &[u8]) -> Occurs<'a>
 {
     let mut occurs = Occurs::Never;
     for field in fields {
-        if is_named(field, name) {
+        if is_field_named(field, name) {
             occurs = once_more(occurs, field.value.as_slice());
         }
     }
@@ -40,8 +40,8 @@ fn once_more<'a>(occurs: Occurs<'a>, value: &'a [u8]) -> Occurs<'a>
     }
 }
 
-fn is_named(field: &Field, name: &[u8]) -> bool
-    ensures named { result ≡ is_named name.now field.now }
+fn is_field_named(field: &Field, name: &[u8]) -> bool
+    ensures named { result ≡ is_field_named name.now field.now }
 {
     same_name(field.name.as_slice(), name)
 }
@@ -65,7 +65,7 @@ pub(crate) fn joined(
 {
     let mut text = None;
     for field in fields {
-        if is_named(field, name) {
+        if is_field_named(field, name) {
             text = Some(with_value(alloc, text, field.value.as_slice())?);
         }
     }

@@ -18,8 +18,6 @@ mod serve;
 mod settling;
 mod status_lines;
 mod target;
-#[cfg(test)]
-mod tests;
 mod verb;
 
 pub use account::{Account, Accounts, Config};
@@ -30,5 +28,5 @@ pub use manner::{Manner, manner_of};
 pub use output::one_output;
 pub use reply::{HEAD_ROOM, Written, head_room, write_answer};
 pub use serve::{End, serve_stream};
-pub use target::{Target, target_of, path_part};
+pub use target::{Target, path_part, target_of};
 pub use verb::{Verb, verb_of};

@@ -4,7 +4,7 @@ ghost use Rattle.std.specs.Prelude.{◌≡◌, ◌+◌, ◌<◌, ◌≤◌, ◌^
 ghost use Rattle.rs_rules.specs.Desks.{ForHistories};
 ghost use Rattle.rs_rules.specs.Requests.{is_within_limit};
 ghost use Rattle.rs_front.specs.declared.asked.Asked.TheVariants.{Desk};
-ghost use Rattle.rs_wire.specs.declared.limits.TheConstants.{BODY_LIMIT};
+ghost use Rattle.rs_path.specs.Limits.{max_body};
 ghost use Rattle.rs_front.specs.Requests.{asked_of};
 ghost use Rattle.rs_front.specs.Settling.{IsServed, IsShort, Decides, Settles, RepliesTo};
 ghost use Rattle.rs_face.specs.declared.sink.SinkFault.TheVariants as SinkFault;
@@ -37,7 +37,7 @@ pub(crate) fn reply_to<W: Sink, D: Desk>(
     sink: &mut W,
 ) -> Result<(), SinkFault>
     requires served { (user : ℕ) → IsAccount config.now.accounts user → D.serves desk.old user }
-    requires short { length message.body ≤ BODY_LIMIT }
+    requires short { length message.body ≤ max_body }
     requires few { count + 1 < 2 ^ 64 }
     ensures replies { ForHistories (IsAccount config.now.accounts) (D.stands desk.old) (D.stands desk.new) (λ old now.
         RepliesTo (users_of_desk D.quota D.me D.alone desk.old now) config.now.accounts count message old
@@ -62,7 +62,7 @@ fn settle<D: Desk>(
     manner: Manner,
 ) -> Result<Written, NoMemory>
     requires served { (user : ℕ) → IsAccount config.now.accounts user → D.serves desk.old user }
-    requires short { length message.body ≤ BODY_LIMIT }
+    requires short { length message.body ≤ max_body }
     ensures settles { ForHistories (IsAccount config.now.accounts) (D.stands desk.old) (D.stands desk.new) (λ old now.
         Settles (users_of_desk D.quota D.me D.alone desk.old now) manner (asked_of config.now.accounts message) old
         (D.faults desk.old) (D.faults desk.new) result) }

@@ -19,8 +19,6 @@ mod reading;
 mod spelling;
 mod tag;
 mod target;
-#[cfg(test)]
-mod tests;
 mod user;
 
 pub use bytes::Bytes;

@@ -8,8 +8,6 @@ mod laws;
 mod parts;
 mod record_fault;
 mod records;
-#[cfg(test)]
-mod tests;
 mod text;
 
 pub use decoding::decode;

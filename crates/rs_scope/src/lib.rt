@@ -11,8 +11,6 @@ mod roots;
 mod scope;
 mod scope_fault;
 mod scopes;
-#[cfg(test)]
-mod tests;
 mod token;
 
 pub use laws::{reach_laws, root_laws};

@@ -1,5 +1,5 @@
 //! What the fakes answer and hold, as tables.
-use crate::{
+use rs_face::{
     Bytes, Entropy, EntropyFault, KeepFault, Keeper, MemEntropy, MemKeeper, MemSink, MemSource,
     NoFailKeeper, NoFailSink, NoFailSource, Sink, SinkFault, Source, SourceFault, write_all,
 };

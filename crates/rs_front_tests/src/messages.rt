@@ -1,6 +1,6 @@
 //! What messages ask, and the bytes of replies, as tables.
 
-use crate::{
+use rs_front::{
     Account, Accounts, Answer, Asked, Manner, Refusal, Target, fault_line, fault_rest, head_room,
     interim_bytes, manner_of, read_request, starved_bytes, write_answer,
 };

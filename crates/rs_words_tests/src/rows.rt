@@ -1,8 +1,8 @@
 //! The rows of known records, their faults and places, and what the contracts leave to a run: that a call with ample
 //! memory answers.
 
-use crate::{Record, RecordFault, decode, encode, encode_put};
 use rs_path::{Bytes, Kind, Path};
+use rs_record::{Record, RecordFault, decode, encode, encode_put};
 use rs_scope::{Scopes, Token};
 use std::alloc::Global;
 use std::test::Fail;

@@ -1,8 +1,8 @@
 //! Texts of scopes with their faults and places, what scopes reach, and what the contracts leave to a run: that a
 //! call with ample memory answers.
 
-use crate::{Method, ScopeFault, Scopes, Token, free_read, reaches};
 use rs_path::{NoMemory, Path};
+use rs_scope::{Method, ScopeFault, Scopes, Token, free_read, reaches};
 use std::alloc::Global;
 use std::test::Fail;
 

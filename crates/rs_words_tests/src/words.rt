@@ -3,7 +3,9 @@
 
 ghost use Rattle.std.specs.Prelude.{◌≡◌, true, None, IfOk};
 
-use crate::{Bytes, Child, Entry, Items, Kind, Name, NoMemory, Path, PathFault, PathWhy, Tag};
+use rs_path::{
+    Bytes, Child, Entry, Items, Kind, Name, NoMemory, Path, PathFault, PathWhy, Tag, is_user,
+};
 use std::alloc::Global;
 use std::cmp::Ordering;
 use std::collections::BTreeMap;
@@ -319,9 +321,30 @@ fn keys_are_ordered_with_their_slash(rt: HostRuntime) -> Result<(), Fail> {
         folder: false,
     };
     assert_eq!(rt; document.cmp(&folder), Ordering::Less);
+    assert_eq!(rt; document.cmp_name(&name, true), Ordering::Less);
+    assert_eq!(rt; folder.cmp_name(&longer, false), Ordering::Greater);
+    assert_eq!(rt; folder.cmp_name(&name, true), Ordering::Equal);
     assert!(rt; folder.copy()? == folder);
     let first = folder_entry(alloc, longer)?;
     let second = folder_entry(alloc, name)?;
     assert_eq!(rt; first.cmp_key(&second), Ordering::Less);
     Ok(())
+}
+
+#[test]
+fn users_by_their_names(rt: HostRuntime) {
+    for text in ["a", "alice", "0-9_z", "abcdefghijklmnopqrstuvwxyz012345"] {
+        assert!(rt; is_user(text.as_bytes()), "{text}");
+    }
+    for text in [
+        "",
+        "Alice",
+        "a b",
+        "a/b",
+        "a.b",
+        "ä",
+        "abcdefghijklmnopqrstuvwxyz0123456",
+    ] {
+        assert!(rt; !is_user(text.as_bytes()), "{text}");
+    }
 }
