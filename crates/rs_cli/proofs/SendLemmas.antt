@@ -2,7 +2,7 @@
 use Rattle.std.proofs.Common.{ℕ, List, [], ◌++◌, Option, Result, Ok, Err, length, min, sym, ◌∙◌, subst, arith, append-nil}
 use Rattle.std.proofs.lemmas.List.{take_min, take-append-le}
 use Rattle.std.specs.Io.KnownBytes.{Appends, Keeps}
-use Rattle.rs_face.proofs.ToldLemmas.{Appends-kept, AppendsFront-whole}
+use Rattle.rs_face.proofs.Cited.{Appends-kept, AppendsFront-whole}
 use Rattle.rs_face.specs.Told.{AppendsFront}
 use Rattle.rs_cli.specs.Asking.{Writes}
 

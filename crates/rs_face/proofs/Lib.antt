@@ -1,2 +1,4 @@
-pub mod CauseLemmas
-pub mod ToldLemmas
+pub mod Cited
+mod CauseLemmas
+mod CourseLemmas
+mod ToldLemmas

@@ -6,8 +6,8 @@ use Rattle.std.specs.Io.KnownBytes.{Consumes, Appends, IsAtEnd}
 use Rattle.rs_face.specs.Causes.{Rose, HasCause}
 use Rattle.rs_face.specs.Told.{AppendsFront}
 use Rattle.rs_face.specs.declared.sink.SinkFault.{SinkFault}
-use Rattle.rs_face.proofs.ToldLemmas.{Consumes-nil, Consumes-trans, Appends-nil}
-use Rattle.rs_face.proofs.CauseLemmas.{Rose-later}
+use Rattle.rs_face.proofs.Cited.{Consumes-nil, Consumes-trans, Appends-nil}
+use Rattle.rs_face.proofs.Cited.{Rose-later}
 use Rattle.rs_wire.specs.declared.fault.NextFault.TheVariants.{Wire}
 use Rattle.rs_wire.specs.declared.fault.WireFault.{WireFault}
 use Rattle.rs_wire.specs.declared.fault.WireWhy.TheVariants.{Truncated}

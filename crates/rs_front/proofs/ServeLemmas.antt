@@ -2,8 +2,8 @@
 use Rattle.std.proofs.Common.{◌≡◌, ℕ, ◌+◌, ◌-◌, ◌<◌, ◌≤◌, inl, inr, Bool, true, false, List, [], ◌∷◌, ◌++◌, Option, Some, Result, Ok, Err, length, take, drop, refl, sym, ap, subst, ◌∙◌, arith, append-nil, length-append}
 use Rattle.std.proofs.Math.Seq.{take-append-add, take-length}
 use Rattle.std.specs.Io.KnownBytes.{Consumes, Appends}
-use Rattle.rs_face.proofs.ToldLemmas.{Consumes-nil, Consumes-trans, Appends-nil, Appends-trans}
-use Rattle.rs_face.proofs.CauseLemmas.{Rose-later}
+use Rattle.rs_face.proofs.Cited.{Consumes-nil, Consumes-trans, Appends-nil, Appends-trans}
+use Rattle.rs_face.proofs.Cited.{Rose-later}
 use Rattle.rs_face.specs.Causes.{Rose, HasCause}
 use Rattle.rs_face.specs.Told.{AppendsFront}
 use Rattle.rs_face.specs.declared.sink.SinkFault.{SinkFault}

@@ -4,7 +4,7 @@ use Rattle.std.specs.List.{list_all}
 use Rattle.std.proofs.lemmas.Bool.{and_parts, and_from}
 use Rattle.std.proofs.lemmas.List.Elements.{All-head, All-tail}
 use Rattle.rs_path.specs.declared.entry.Entry.{Entry}
-use Rattle.rs_path.specs.Items.{comes_before, is_item, is_ascending}
+use Rattle.rs_path.specs.Items.{comes_before, is_entry, is_item, is_ascending}
 
 list_all-push : (test : Entry → Bool) (entries : List Entry) (item : Entry) → list_all test entries ≡ true → test item ≡ true
     → list_all test (entries ++ item ∷ []) ≡ true
@@ -25,3 +25,6 @@ is_ascending-push (entry ∷ entries) item order above =
 
 pub is_item-push : (entries : List Entry) (item : Entry) → list_all is_item entries ≡ true → is_item item ≡ true → list_all is_item (entries ++ item ∷ []) ≡ true
 is_item-push = list_all-push is_item
+
+pub is_entry-push : (entries : List Entry) (item : Entry) → list_all is_entry entries ≡ true → is_entry item ≡ true → list_all is_entry (entries ++ item ∷ []) ≡ true
+is_entry-push = list_all-push is_entry

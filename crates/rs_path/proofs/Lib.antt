@@ -1,13 +1,14 @@
-pub mod NameLemmas
-pub mod AsciiLemmas
-pub mod ReadingLemmas
-pub mod EscapeLemmas
-pub mod RoundTrips
-pub mod TextLemmas
-pub mod PathLemmas
-pub mod OrderLemmas
-pub mod ItemLemmas
-pub mod KeyLemmas
-pub mod BelowLemmas
-pub mod ChildLemmas
-pub mod PrefixLemmas
+pub mod Cited
+mod NameLemmas
+mod AsciiLemmas
+mod ReadingLemmas
+mod EscapeLemmas
+mod RoundTrips
+mod TextLemmas
+mod PathLemmas
+mod OrderLemmas
+mod ItemLemmas
+mod KeyLemmas
+mod BelowLemmas
+mod ChildLemmas
+mod PrefixLemmas

@@ -1,3 +1,4 @@
+pub mod Limits
 pub mod Names
 pub mod Kinds
 pub mod Tags
@@ -11,3 +12,5 @@ pub mod Targets
 pub mod Readings
 pub mod Items
 pub mod SameEntries
+pub mod Logs
+pub mod Users

@@ -2,6 +2,7 @@
 use Rattle.std.specs.Prelude.{ℕ, Bool, not, ◌&&◌, ◌||◌, ◌==◌, nat_lt, nat_le, List, [], ◌∷◌, length}
 use Rattle.std.specs.List.{list_all}
 use Rattle.std.specs.Str.{bytes_eq, is_utf8}
+use Rattle.rs_path.specs.Limits.{max_name}
 
 -- neither `/` nor NUL is among the bytes
 abbrev pub has_no_separator : List ℕ → Bool
@@ -13,5 +14,5 @@ is_dots text = bytes_eq text (46 ∷ []) || bytes_eq text (46 ∷ 46 ∷ [])
 
 -- 1 to 255 bytes of UTF-8 without `/` and NUL, and neither `.` nor `..`
 abbrev pub is_name : List ℕ → Bool
-is_name text = nat_lt 0 (length text) && nat_le (length text) 255 && has_no_separator text && not (is_dots text)
+is_name text = nat_lt 0 (length text) && nat_le (length text) max_name && has_no_separator text && not (is_dots text)
     && is_utf8 text

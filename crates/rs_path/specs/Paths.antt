@@ -8,6 +8,7 @@ use Rattle.std.specs.Cmp.Lexicographic.{slice_cmp}
 use lib.Pointwise.{pointwise}
 use mathlib.Core.Bool.{beq}
 use Rattle.rs_path.specs.Names.{is_name}
+use Rattle.rs_path.specs.Limits.{max_names}
 
 -- the names from the root down, and whether it is a folder
 pub record Path : Type 0 where
@@ -21,7 +22,7 @@ is_nil (x ∷ xs) = false
 
 -- each name is one, there are at most 32, and a document has at least one
 abbrev pub is_path : Path → Bool
-is_path p = list_all is_name p.names && nat_le (length p.names) 32 && (p.folder || not (is_nil p.names))
+is_path p = list_all is_name p.names && nat_le (length p.names) max_names && (p.folder || not (is_nil p.names))
 
 -- the folder `/`
 abbrev pub is_root : Path → Bool

@@ -12,6 +12,7 @@ use Rattle.rs_path.specs.declared.spelling.Spelling.{Spelling}
 use Rattle.rs_path.specs.declared.spelling.Spelling.TheVariants.{Escaped, Plain}
 use Rattle.rs_path.specs.Names.{is_dots}
 use Rattle.rs_path.specs.Paths.{Path, folder_at, document_at, is_nil}
+use Rattle.rs_path.specs.Limits.{max_name, max_names}
 
 -- why the bytes, of which there are some, are no name
 abbrev pub name_fault : List ℕ → Option PathWhy
@@ -19,7 +20,7 @@ name_fault name = if list_any (λ byte. byte == 47) name then Some Slash
     else if list_any (λ byte. byte == 0) name then Some Nul
     else if not (is_utf8 name) then Some NotUtf8
     else if is_dots name then Some Dots
-    else if nat_lt 255 (length name) then Some NameLong
+    else if nat_lt max_name (length name) then Some NameLong
     else None
 
 -- the name, unless there is a fault
@@ -52,7 +53,7 @@ name_by Plain segment = plain_name segment
 
 -- the name of a segment after a number of names
 abbrev pub segment_name : (List ℕ → Result (List ℕ) PathWhy) → ℕ → List ℕ → Result (List ℕ) PathWhy
-segment_name name_of count segment = if nat_le 32 count then Err Deep
+segment_name name_of count segment = if nat_le max_names count then Err Deep
     else if is_nil segment then Err Empty
     else name_of segment
 

@@ -1,6 +1,7 @@
 //! Children of a folder.
 
 ghost use Rattle.std.specs.Prelude.{◌≡◌, IfOk};
+ghost use Rattle.rs_path.specs.Children.{child_cmp};
 
 use crate::key::compare_keys;
 use crate::name::Name;
@@ -23,6 +24,13 @@ impl Child {
             name: self.name.copy()?,
             folder: self.folder,
         })
+    }
+
+    /// The order of the child before the one of this name, as `cmp` has it. It takes no memory.
+    pub fn cmp_name(&self, name: &Name, folder: bool) -> Ordering
+        ensures order { result ≡ child_cmp self.now (record { name = name.now; folder = folder }) }
+    {
+        compare_keys(self.name.as_slice(), self.folder, name.as_slice(), folder)
     }
 }
 
@@ -48,7 +56,6 @@ impl Eq for Child {
 
 impl PartialOrd for Child {
     ghost use Rattle.std.specs.Ordering.{as_partial_cmp};
-    ghost use Rattle.rs_path.specs.Children.{child_cmp};
     ghost use Rattle.rs_path.specs.ChildOrder.{child_order};
 
     ghost partial_cmp = { as_partial_cmp child_cmp };
@@ -63,7 +70,6 @@ impl PartialOrd for Child {
 /// The order of the keys, byte by byte; a folder's key is its name and `/`.
 impl Ord for Child {
     ghost use Rattle.std.specs.Prelude.{refl};
-    ghost use Rattle.rs_path.specs.Children.{child_cmp};
     ghost use Rattle.rs_path.specs.ChildOrder.{child_cmp_total, child_ties};
 
     ghost cmp = { child_cmp };

@@ -1,9 +1,10 @@
 //! Items of a folder.
 
-ghost use Rattle.std.specs.Prelude.{◌≡◌, IfOk};
+ghost use Rattle.std.specs.Prelude.{◌≡◌, IfOk, IsTrue};
 ghost use Rattle.std.specs.Ordering.{nat_cmp};
 ghost use Rattle.std.specs.Cmp.Lexicographic.{slice_cmp};
-ghost use Rattle.rs_path.specs.Items.{entry_key};
+ghost use Rattle.rs_path.specs.Items.{entry_key, is_entry, is_u64, holds_of};
+ghost use Rattle.rs_path.specs.Kinds.{is_kind};
 
 use crate::key::compare_keys;
 use crate::kind::Kind;
@@ -40,6 +41,16 @@ impl Entry {
             other.name.as_slice(),
             other.folder,
         )
+    }
+
+    // Reads nothing: it says what the types of the parts promise.
+    pub(crate) fn look(&self)
+        ensures parts { IsTrue (is_entry self.now) }
+    {
+        self.name.as_slice();
+        self.tag.as_slice();
+        look_at_kind(&self.kind);
+        look_at_length(&self.length);
     }
 
     /// An equal entry, from the same allocators.
@@ -81,4 +92,20 @@ impl Eq for Entry {
     ghost use Rattle.rs_path.specs.SameEntries.{same_entry_equiv};
 
     ghost laws = { same_entry_equiv };
+}
+
+fn look_at_kind(kind: &Option<Kind>)
+    ensures { IsTrue (holds_of is_kind kind.now) }
+{
+    if let Some(kind) = kind {
+        kind.as_slice();
+    }
+}
+
+fn look_at_length(length: &Option<u64>)
+    ensures { IsTrue (holds_of is_u64 length.now) }
+{
+    if let Some(length) = length {
+        let _length = *length;
+    }
 }

@@ -2,7 +2,7 @@
 
 ghost use Rattle.std.specs.Prelude.{◌≡◌, [], ◌∷◌, ◌++◌, All, IfOk, OnOk, OnErr, IsTrue};
 ghost use Rattle.std.specs.List.{list_all};
-ghost use Rattle.rs_path.specs.Items.{comes_before, is_item, is_ascending};
+ghost use Rattle.rs_path.specs.Items.{comes_before, is_entry, is_item, is_ascending};
 
 use crate::entry::Entry;
 use crate::no_memory::NoMemory;
@@ -25,13 +25,14 @@ impl Model for Items {
 
     ghost use Rattle.std.specs.Prelude.{IsTrue};
     ghost use Rattle.std.specs.List.{list_all};
-    ghost use Rattle.rs_path.specs.Items.{is_item, is_ascending};
+    ghost use Rattle.rs_path.specs.Items.{is_entry, is_item, is_ascending};
 
     ghost view = { λ i. i.list.items };
 
     ghost invariant = { λ i. record {
       ascending : IsTrue (is_ascending i.list.items);
       plain : IsTrue (list_all is_item i.list.items);
+      parts : IsTrue (list_all is_entry i.list.items);
     } };
 }
 
@@ -52,6 +53,7 @@ impl Items {
         ensures ok { OnOk result (self.new ≡ self.old ++ item ∷ []) }
         ensures err { OnErr result (self.new ≡ self.old) }
     {
+        item.look();
         self.list.push(item)?;
         Ok(())
     }
@@ -61,6 +63,8 @@ impl Items {
         ensures items { result.now ≡ self.now }
         ensures ascending { IsTrue (is_ascending self.now) }
         ensures plain { IsTrue (list_all is_item self.now) }
+        // The parts of each entry are what their types promise.
+        ensures parts { IsTrue (list_all is_entry self.now) }
     {
         self.list.as_slice()
     }

@@ -6,12 +6,10 @@ ghost use Rattle.std.proofs.lemmas.Cmp.{nat_list_eq_equiv};
 ghost use Rattle.std.specs.Str.{bytes_eq};
 ghost use Rattle.rs_path.specs.Kinds.{is_kind, is_printable, is_bare};
 
+use crate::limits::MAX_KIND;
 use crate::no_memory::NoMemory;
 use std::alloc::Global;
 use std::marker::Model;
-
-/// The greatest number of bytes of a content type.
-pub const MAX_KIND: usize = 255;
 
 /// A content type: 1 to 255 bytes of 0x20 to 0x7E, of which neither the first nor the last is a space.
 ///

@@ -6,12 +6,10 @@ ghost use Rattle.std.proofs.lemmas.Cmp.{nat_list_eq_equiv};
 ghost use Rattle.std.specs.Str.{bytes_eq, is_utf8};
 ghost use Rattle.rs_path.specs.Names.{is_name, is_dots, has_no_separator};
 
+use crate::limits::MAX_NAME;
 use crate::no_memory::NoMemory;
 use std::alloc::Global;
 use std::marker::Model;
-
-/// The greatest number of bytes of a name.
-pub const MAX_NAME: usize = 255;
 
 /// One name of a path: 1 to 255 bytes of UTF-8 without `/` and NUL, and neither `.` nor `..`.
 ///

@@ -18,9 +18,6 @@ use std::alloc::Global;
 use std::cmp::Ordering;
 use std::marker::Model;
 
-/// The greatest number of names of a path.
-pub const MAX_NAMES: usize = 32;
-
 /// The path of a document or a folder: 0 to 32 names and whether it is a folder.
 ///
 /// The path with no names is the folder `/`. Its plain text is `/` and the names joined by `/`, with

@@ -6,9 +6,10 @@ ghost use Rattle.percent_encoding.specs.Percent.{percent_decode};
 ghost use Rattle.rs_path.specs.Paths.{is_nil};
 ghost use Rattle.rs_path.specs.Readings.{name_fault, begins_with_digits, has_whole_escapes, escaped_name, plain_name, name_by, segment_name, segments_reading, is_slash, rest_parts, reading, Reads, ReadsName};
 
-use crate::name::{self, MAX_NAME, Name};
+use crate::limits::{MAX_NAME, MAX_NAMES};
+use crate::name::{self, Name};
 use crate::no_memory::NoMemory;
-use crate::path::{MAX_NAMES, Path};
+use crate::path::Path;
 use crate::path_fault::{PathFault, PathWhy};
 use crate::spelling::Spelling;
 use percent_encoding::percent_decode;

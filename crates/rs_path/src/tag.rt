@@ -6,13 +6,11 @@ ghost use Rattle.std.proofs.lemmas.Cmp.{nat_list_eq_equiv};
 ghost use Rattle.std.specs.Str.{bytes_eq};
 ghost use Rattle.rs_path.specs.Tags.{is_tag, has_no_quote};
 
+use crate::limits::MAX_TAG;
 use crate::no_memory::NoMemory;
 use itoa::Buffer;
 use std::alloc::Global;
 use std::marker::Model;
-
-/// The greatest number of bytes of a tag.
-pub const MAX_TAG: usize = 255;
 
 /// The text of an entity tag between its quotes: 1 to 255 bytes of 0x21 to 0x7E other than `"`.
 ///

@@ -11,7 +11,7 @@ use Rattle.rs_path.specs.Names.{is_name}
 use Rattle.rs_path.specs.Paths.{Path}
 use Rattle.rs_path.specs.Items.{comes_before}
 use Rattle.rs_path.specs.Children.{child_cmp}
-use Rattle.rs_path.proofs.KeyLemmas.{slice_cmp-key_of}
+use Rattle.rs_path.proofs.Cited.{slice_cmp-key_of}
 use Rattle.rs_rules.specs.Contents.{Contents}
 use Rattle.rs_rules.specs.Listings.{item_of}
 

@@ -12,7 +12,7 @@ use Rattle.rs_path.specs.declared.path_fault.PathFault.{PathFault}
 use Rattle.rs_path.specs.Kinds.{is_kind}
 use Rattle.rs_path.specs.Paths.{Path, plain_text}
 use Rattle.rs_path.specs.Readings.{plain_reading}
-use Rattle.rs_path.proofs.RoundTrips.{plain_text-plain_reading}
+use Rattle.rs_path.proofs.Cited.{plain_text-plain_reading}
 use Rattle.rs_scope.specs.declared.scope.Scope.{Scope}
 use Rattle.rs_scope.specs.declared.scope_fault.ScopeFault.{ScopeFault}
 use Rattle.rs_scope.specs.Scopes.{scopes_text}
@@ -23,7 +23,7 @@ use Rattle.rs_record.specs.declared.records.Record.{Record}
 use Rattle.rs_record.specs.declared.records.Record.TheVariants.{Remove, Grant, Revoke}
 use Rattle.rs_record.specs.Records.{body_limit, is_document, is_writable}
 use Rattle.rs_record.specs.Rows.{short_text, tiny_text, long_text, document_fields, spelling}
-use Rattle.rs_record.specs.RowReadings.{Cut, Field, ◌>>=◌, cut_at, tiny_cut, short_cut, text_field, judged, bytes_field, path_field, kind_field, scopes_field, sized_body, body_field, ended, Document, document_reading_at, put_of, digested, document_in, document_reading, kind_reading, scopes_in, written_scopes, put_reading, remove_reading, grant_reading, revoke_reading, written_put_reading, written_remove_reading, first_format, second_format, record_reading}
+use Rattle.rs_record.specs.RowReadings.{Cut, Field, ◌>>=◌, cut_at, tiny_cut, short_cut, text_field, judged, bytes_field, path_field, kind_field, scopes_field, sized_body, body_field, ended, Document, document_reading_at, put_of, digested, document_in, document_reading, kind_reading, scopes_written_as, written_scopes, put_reading, remove_reading, grant_reading, revoke_reading, written_put_reading, written_remove_reading, first_format, second_format, record_reading}
 use Rattle.rs_record.proofs.FieldLemmas.{Made, At}
 
 -- ---- bytes
@@ -177,7 +177,7 @@ kind_field-ok place row f small done =
     let is = stands_for (tiny_cut row) kind_reading (place + 1) (place + length row) f done in
     subst (λ (t : List ℕ). Begins (tiny_text t) row f.rest) (sym (kind_is is.text f.value is.stands)) (tiny_cut-some row is.text f.rest small is.found)
 
-scopes_are : (text : List ℕ) (r : Result (List Scope) ScopeFault) (scopes : List Scope) → scopes_in text r ≡ Some scopes → scopes_text scopes ≡ text
+scopes_are : (text : List ℕ) (r : Result (List Scope) ScopeFault) (scopes : List Scope) → scopes_written_as text r ≡ Some scopes → scopes_text scopes ≡ text
 scopes_are text (Ok read) scopes found =
     ⊎_elim
     (λ written.

@@ -8,15 +8,15 @@ use Rattle.std.proofs.lemmas.Nat.{from_be_bytes-to_be_bytes_2, from_be_bytes-to_
 use Rattle.std.proofs.lemmas.Slice.Eq.{bytes_eq-Decides}
 use Rattle.rs_path.specs.Kinds.{is_kind}
 use Rattle.rs_path.specs.Paths.{Path, is_path, plain_text}
-use Rattle.rs_path.proofs.RoundTrips.{plain_reading-plain_text}
-use Rattle.rs_path.proofs.TextLemmas.{length-plain_text}
+use Rattle.rs_path.proofs.Cited.{plain_reading-plain_text}
+use Rattle.rs_path.proofs.Cited.{length-plain_text}
 use Rattle.rs_scope.specs.declared.scope.Scope.{Scope}
 use Rattle.rs_scope.specs.Scopes.{scopes_text, is_scopes}
-use Rattle.rs_scope.proofs.ReadingLemmas.{HasScopes-from, scopes_reading-text}
+use Rattle.rs_scope.proofs.Cited.{HasScopes-from, scopes_reading-text}
 use Rattle.rs_record.specs.declared.record_fault.RecordFault.{RecordFault}
 use Rattle.rs_record.specs.Records.{is_document}
 use Rattle.rs_record.specs.Rows.{short_text, tiny_text, long_text}
-use Rattle.rs_record.specs.RowReadings.{Cut, Field, ◌>>=◌, cut_at, tiny_cut, short_cut, text_field, judged, bytes_field, path_field, kind_field, scopes_field, sized_body, body_field, document_in, document_reading, kind_reading, scopes_in, written_scopes}
+use Rattle.rs_record.specs.RowReadings.{Cut, Field, ◌>>=◌, cut_at, tiny_cut, short_cut, text_field, judged, bytes_field, path_field, kind_field, scopes_field, sized_body, body_field, document_in, document_reading, kind_reading, scopes_written_as, written_scopes}
 
 abbrev pub Made : List ℕ → List ℕ → Cut
 Made front rest = record { front = front; rest = rest }
@@ -61,7 +61,7 @@ kind_reading-text kind is = cond-true _ _ _ is
 
 written_scopes-text : (scopes : List Scope) → is_scopes scopes ≡ true → written_scopes (scopes_text scopes) ≡ Some scopes
 written_scopes-text scopes is =
-    ap (scopes_in (scopes_text scopes)) (scopes_reading-text scopes is)
+    ap (scopes_written_as (scopes_text scopes)) (scopes_reading-text scopes is)
     ∙ cond-true _ _ _ ((bytes_eq-Decides (scopes_text scopes) (scopes_text scopes)).1 refl)
 
 -- a text that was cut and stands for something

@@ -1,3 +1,3 @@
-pub mod FieldLemmas
-pub mod RowLemmas
-pub mod CanonLemmas
+mod FieldLemmas
+mod RowLemmas
+mod CanonLemmas

@@ -11,7 +11,7 @@ use Rattle.rs_path.specs.Paths.{Path, is_path, plain_text}
 use Rattle.rs_scope.specs.Tokens.{is_token}
 use Rattle.rs_scope.specs.declared.scope.Scope.{Scope}
 use Rattle.rs_scope.specs.Scopes.{scopes_text, is_scopes}
-use Rattle.rs_scope.proofs.TokenLemmas.{HasToken-from}
+use Rattle.rs_scope.proofs.Cited.{HasToken-from}
 use Rattle.rs_record.specs.declared.record_fault.RecordFault.{RecordFault}
 use Rattle.rs_record.specs.declared.record_fault.RecordFault.TheVariants.{Bad}
 use Rattle.rs_record.specs.declared.records.Record.{Record}

@@ -1,6 +1,7 @@
 -- Records, and which of them have a spelling.
 use Rattle.std.specs.Prelude.{ℕ, Bool, true, not, ◌&&◌, nat_le, List, length, Option, Some, None}
 use Rattle.rs_path.specs.Kinds.{is_kind}
+use Rattle.rs_path.specs.Limits.{max_body, max_plain_body}
 use Rattle.rs_path.specs.Paths.{Path, is_path}
 use Rattle.rs_scope.specs.Scopes.{is_scopes}
 use Rattle.rs_scope.specs.Tokens.{is_token}
@@ -9,8 +10,8 @@ use Rattle.rs_record.specs.declared.records.Record.TheVariants.{Put, Remove, Gra
 
 -- the greatest number of bytes of the body of a Put, without a writer and with one
 abbrev pub body_limit : Option (List ℕ) → ℕ
-body_limit None = 16777216
-body_limit (Some writer) = 67108864
+body_limit None = max_plain_body
+body_limit (Some writer) = max_body
 
 -- the path of a document
 abbrev pub is_document : Path → Bool

@@ -22,14 +22,14 @@ remove_start (Some writer) = 2 ∷ 2 ∷ writer
 abbrev pub document_head : Path → List ℕ → List ℕ → List ℕ
 document_head path kind body = short_text (plain_text path) ++ (tiny_text kind ++ to_be_bytes w32 (length body))
 
-abbrev pub head_of : Record → List ℕ
-head_of (Put path kind body writer) = put_start writer body ++ document_head path kind body
-head_of (Remove path writer) = remove_start writer ++ short_text (plain_text path)
-head_of (Grant token scopes) = 1 ∷ 3 ∷ (token ++ short_text (scopes_text scopes))
-head_of (Revoke token) = 1 ∷ 4 ∷ token
+abbrev pub row_head : Record → List ℕ
+row_head (Put path kind body writer) = put_start writer body ++ document_head path kind body
+row_head (Remove path writer) = remove_start writer ++ short_text (plain_text path)
+row_head (Grant token scopes) = 1 ∷ 3 ∷ (token ++ short_text (scopes_text scopes))
+row_head (Revoke token) = 1 ∷ 4 ∷ token
 
-abbrev pub body_of : Record → List ℕ
-body_of (Put path kind body writer) = body
-body_of (Remove path writer) = []
-body_of (Grant token scopes) = []
-body_of (Revoke token) = []
+abbrev pub row_body : Record → List ℕ
+row_body (Put path kind body writer) = body
+row_body (Remove path writer) = []
+row_body (Grant token scopes) = []
+row_body (Revoke token) = []

@@ -34,12 +34,12 @@ abbrev pub kind_reading : List ℕ → Option (List ℕ)
 kind_reading text = if is_kind text then Some text else None
 
 -- the scopes that are written as just this text
-abbrev pub scopes_in : List ℕ → Result (List Scope) ScopeFault → Option (List Scope)
-scopes_in text (Ok scopes) = if bytes_eq (scopes_text scopes) text then Some scopes else None
-scopes_in text (Err fault) = None
+abbrev pub scopes_written_as : List ℕ → Result (List Scope) ScopeFault → Option (List Scope)
+scopes_written_as text (Ok scopes) = if bytes_eq (scopes_text scopes) text then Some scopes else None
+scopes_written_as text (Err fault) = None
 
 abbrev pub written_scopes : List ℕ → Option (List Scope)
-written_scopes text = scopes_in text (scopes_reading text)
+written_scopes text = scopes_written_as text (scopes_reading text)
 
 -- ---- fields
 
@@ -206,9 +206,9 @@ IsFault (Bad place) wanted = wanted ≡ Err (Bad place)
 IsFault NoMemory wanted = Unit {0}
 
 -- the call read this, or memory ran out
-abbrev pub Reads : {X : Type 0} → Result X RecordFault → Result X RecordFault → Type 0
-Reads (Ok x) wanted = wanted ≡ Ok x
-Reads (Err fault) wanted = IsFault fault wanted
+abbrev pub ReadsAsRecord : {X : Type 0} → Result X RecordFault → Result X RecordFault → Type 0
+ReadsAsRecord (Ok x) wanted = wanted ≡ Ok x
+ReadsAsRecord (Err fault) wanted = IsFault fault wanted
 
 -- a text at the place stands for this, or is refused there, or memory ran out
 abbrev pub ReadsText : {X : Type 0} → Result X RecordFault → ℕ → Option X → Type 0

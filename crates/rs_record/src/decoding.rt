@@ -3,15 +3,15 @@
 ghost use Rattle.std.specs.Prelude.{◌≡◌, ◌+◌, ◌≤◌, ◌^◌, IfOk, IsTrue, MatchResult, Ok, Some, None};
 ghost use Rattle.rs_record.specs.Records.{is_record, body_limit};
 ghost use Rattle.rs_record.specs.Rows.{spelling};
-ghost use Rattle.rs_record.specs.RowReadings.{record_reading, first_format, second_format, put_reading, remove_reading, grant_reading, revoke_reading, written_put_reading, written_remove_reading, document_reading_at, Reads, IsFault};
+ghost use Rattle.rs_record.specs.RowReadings.{record_reading, first_format, second_format, put_reading, remove_reading, grant_reading, revoke_reading, written_put_reading, written_remove_reading, document_reading_at, ReadsAsRecord, IsFault};
 
 use crate::field::{
     read_body, read_bytes, read_end, read_kind_field, read_path, read_scopes_field,
 };
 use crate::parts::look_at_parts;
 use crate::record_fault::RecordFault;
-use crate::records::{MAX_BODY, MAX_PLAIN_BODY, Record};
-use rs_path::{Bytes, Kind, Path};
+use crate::records::Record;
+use rs_path::{Bytes, Kind, MAX_BODY, MAX_PLAIN_BODY, Path};
 use rs_scope::Token;
 use sha2::{Digest, Sha256};
 use std::alloc::Global;
@@ -22,7 +22,7 @@ use std::alloc::Global;
 /// a field that is cut short at the row's length, a surplus byte at its own place. A length and its text are two
 /// fields; only a body's length can be wrong itself. A digest that isn't the body's is refused last, at 18.
 pub fn decode(alloc: Global, row: &[u8]) -> Result<Record, RecordFault>
-    ensures read { Reads result (record_reading row.now) }
+    ensures read { ReadsAsRecord result (record_reading row.now) }
     ensures lawful { IfOk result (λ it. IsTrue (is_record it)) }
     ensures canonical { IfOk result (λ it. spelling it ≡ row.now) }
 {
@@ -32,7 +32,7 @@ pub fn decode(alloc: Global, row: &[u8]) -> Result<Record, RecordFault>
 }
 
 fn read_record(alloc: Global, row: &[u8]) -> Result<Record, RecordFault>
-    ensures { Reads result (record_reading row.now) }
+    ensures { ReadsAsRecord result (record_reading row.now) }
 {
     match row {
         [1, rest @ ..] => read_first_format(alloc, rest),
@@ -42,7 +42,7 @@ fn read_record(alloc: Global, row: &[u8]) -> Result<Record, RecordFault>
 }
 
 fn read_first_format(alloc: Global, row: &[u8]) -> Result<Record, RecordFault>
-    ensures { Reads result (first_format row.now) }
+    ensures { ReadsAsRecord result (first_format row.now) }
 {
     match row {
         [1, rest @ ..] => read_put(alloc, rest),
@@ -54,7 +54,7 @@ fn read_first_format(alloc: Global, row: &[u8]) -> Result<Record, RecordFault>
 }
 
 fn read_second_format(alloc: Global, row: &[u8]) -> Result<Record, RecordFault>
-    ensures { Reads result (second_format row.now) }
+    ensures { ReadsAsRecord result (second_format row.now) }
 {
     match row {
         [1, rest @ ..] => read_written_put(alloc, rest),
@@ -64,7 +64,7 @@ fn read_second_format(alloc: Global, row: &[u8]) -> Result<Record, RecordFault>
 }
 
 fn read_put(alloc: Global, row: &[u8]) -> Result<Record, RecordFault>
-    ensures { Reads result (put_reading row.now) }
+    ensures { ReadsAsRecord result (put_reading row.now) }
 {
     let (path, kind, body) = read_document(alloc, MAX_PLAIN_BODY, 2, row)?;
     Ok(Record::Put {
@@ -82,7 +82,7 @@ fn read_remove(
     row: &[u8],
 ) -> Result<Record, RecordFault>
     requires { place ≤ 2 ^ 20 }
-    ensures { Reads result (remove_reading writer place row.now) }
+    ensures { ReadsAsRecord result (remove_reading writer place row.now) }
 {
     let (path, place, row) = read_path(alloc, place, row)?;
     read_end(place, row)?;
@@ -90,7 +90,7 @@ fn read_remove(
 }
 
 fn read_grant(alloc: Global, row: &[u8]) -> Result<Record, RecordFault>
-    ensures { Reads result (grant_reading row.now) }
+    ensures { ReadsAsRecord result (grant_reading row.now) }
 {
     let (token, place, row) = read_bytes(2, row, 16)?;
     let token = Token::of_bytes(token);
@@ -100,7 +100,7 @@ fn read_grant(alloc: Global, row: &[u8]) -> Result<Record, RecordFault>
 }
 
 fn read_revoke(row: &[u8]) -> Result<Record, RecordFault>
-    ensures { Reads result (revoke_reading row.now) }
+    ensures { ReadsAsRecord result (revoke_reading row.now) }
 {
     let (token, place, row) = read_bytes(2, row, 16)?;
     let token = Token::of_bytes(token);
@@ -109,7 +109,7 @@ fn read_revoke(row: &[u8]) -> Result<Record, RecordFault>
 }
 
 fn read_written_put(alloc: Global, row: &[u8]) -> Result<Record, RecordFault>
-    ensures { Reads result (written_put_reading row.now) }
+    ensures { ReadsAsRecord result (written_put_reading row.now) }
 {
     let (writer, place, row) = read_bytes(2, row, 16)?;
     let writer = Token::of_bytes(writer);
@@ -127,7 +127,7 @@ fn read_written_put(alloc: Global, row: &[u8]) -> Result<Record, RecordFault>
 }
 
 fn read_written_remove(alloc: Global, row: &[u8]) -> Result<Record, RecordFault>
-    ensures { Reads result (written_remove_reading row.now) }
+    ensures { ReadsAsRecord result (written_remove_reading row.now) }
 {
     let (writer, place, row) = read_bytes(2, row, 16)?;
     read_remove(alloc, Some(Token::of_bytes(writer)), place, row)

@@ -6,7 +6,7 @@ ghost use Rattle.rs_scope.specs.Scopes.{scopes_text};
 ghost use Rattle.rs_record.specs.declared.records.Record.TheVariants.{Put as PutRecord};
 ghost use Rattle.rs_record.specs.Records.{is_writable, body_limit};
 ghost use Rattle.rs_record.specs.Rows.{short_text, spelling};
-ghost use Rattle.rs_record.specs.RowHeads.{put_start, remove_start, document_head, head_of, body_of};
+ghost use Rattle.rs_record.specs.RowHeads.{put_start, remove_start, document_head, row_head, row_body};
 ghost use Rattle.rs_record.specs.RowReadings.{record_reading};
 
 use crate::parts::look_at_parts;
@@ -25,8 +25,8 @@ pub fn encode(it: &Record, out: &mut Vec<u8>) -> Result<(), NoMemory>
     ensures back { record_reading (spelling it.now) ≡ Ok it.now }
 {
     look_at_parts(it);
-    let head = head_of(*out.allocator(), it)?;
-    append_both(out, head.as_slice(), body_of(it))
+    let head = row_head(*out.allocator(), it)?;
+    append_both(out, head.as_slice(), row_body(it))
 }
 
 /// Appends the row of a document that was put, as `encode` of that record does, without a copy of the body in between.
@@ -63,8 +63,8 @@ fn append_both(out: &mut Vec<u8>, first: &[u8], second: &[u8]) -> Result<(), NoM
 }
 
 // What ends the row: the body of a document, which isn't copied twice.
-fn body_of(it: &Record) -> &[u8]
-    ensures { result.now ≡ body_of it.now }
+fn row_body(it: &Record) -> &[u8]
+    ensures { result.now ≡ row_body it.now }
 {
     match it {
         Record::Put { body, .. } => body.as_slice(),
@@ -73,9 +73,9 @@ fn body_of(it: &Record) -> &[u8]
 }
 
 // The row without its body.
-fn head_of(alloc: Global, it: &Record) -> Result<Vec<u8>, NoMemory>
+fn row_head(alloc: Global, it: &Record) -> Result<Vec<u8>, NoMemory>
     requires { IsTrue (is_writable it.now) }
-    ensures { IfOk result (λ head. head.items ≡ head_of it.now) }
+    ensures { IfOk result (λ head. head.items ≡ row_head it.now) }
 {
     let mut head = Vec::new(alloc);
     match it {

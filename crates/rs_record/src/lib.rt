@@ -16,4 +16,4 @@ pub use decoding::decode;
 pub use encoding::{encode, encode_put};
 pub use laws::row_laws;
 pub use record_fault::RecordFault;
-pub use records::{MAX_BODY, MAX_PLAIN_BODY, Record};
+pub use records::Record;

@@ -5,12 +5,6 @@ ghost use Rattle.std.specs.Prelude.{◌≡◌, IfOk};
 use rs_path::{Bytes, Kind, NoMemory, Path};
 use rs_scope::{Scopes, Token};
 
-/// The greatest number of bytes of the body of a Put without a writer.
-pub const MAX_PLAIN_BODY: usize = 16_777_216;
-
-/// The greatest number of bytes of the body of a Put with a writer.
-pub const MAX_BODY: usize = 67_108_864;
-
 /// One thing that happened in the account of a user, in the order in which it was accepted.
 ///
 /// A record says all of what it did, so that the list of a user's records is the account. Its spelling as a row is
@@ -23,7 +17,7 @@ pub enum Record {
         path: Path,
         /// The content type.
         kind: Kind,
-        /// The whole body: at most `MAX_PLAIN_BODY` bytes without a writer, and `MAX_BODY` with one.
+        /// The whole body: at most `MAX_PLAIN_BODY` bytes without a writer, and `MAX_BODY` with one, of `rs_path`.
         body: Bytes,
         /// The token that wrote it, where it is known.
         writer: Option<Token>,

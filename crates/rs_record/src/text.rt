@@ -3,7 +3,7 @@
 ghost use Rattle.std.specs.Prelude.{◌≡◌, Ok, IfOk};
 ghost use Rattle.std.specs.Str.{bytes_eq};
 ghost use Rattle.rs_scope.specs.Scopes.{scopes_text};
-ghost use Rattle.rs_record.specs.RowReadings.{document_reading, document_in, kind_reading, scopes_in, written_scopes, ReadsText};
+ghost use Rattle.rs_record.specs.RowReadings.{document_reading, document_in, kind_reading, scopes_written_as, written_scopes, ReadsText};
 
 use crate::record_fault::RecordFault;
 use rs_path::{Kind, NoMemory, Path, PathFault};
@@ -54,7 +54,7 @@ pub(crate) fn read_scopes(alloc: Global, place: u32, text: &[u8]) -> Result<Scop
 
 // The scopes, if they are written as just this text.
 fn if_written(alloc: Global, place: u32, scopes: Scopes, text: &[u8]) -> Result<Scopes, RecordFault>
-    ensures { ReadsText result place (scopes_in text.now (Ok scopes)) }
+    ensures { ReadsText result place (scopes_written_as text.now (Ok scopes)) }
 {
     if !is_written(alloc, &scopes, text)? {
         return Err(RecordFault::Bad { place });

@@ -15,7 +15,7 @@ use Rattle.rs_path.specs.Paths.{Path, same_path}
 use Rattle.rs_path.specs.Below.{is_below, is_inside}
 use Rattle.rs_path.specs.Children.{child_cmp, same_child, child_at, child_from, child_towards}
 use Rattle.rs_path.specs.ChildOrder.{same_child-Decides, child_cmp_total, child_ties}
-use Rattle.rs_path.proofs.ChildLemmas.{child_towards-leads, child_towards-child_at}
+use Rattle.rs_path.proofs.Cited.{child_towards-leads, child_towards-child_at}
 use Rattle.rs_rules.specs.declared.placed.Placed.{Placed}
 use Rattle.rs_rules.specs.Documents.{doc_in, has_below}
 use Rattle.rs_rules.specs.Contents.{paths_in}

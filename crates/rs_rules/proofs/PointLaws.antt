@@ -7,7 +7,7 @@ use Rattle.std.proofs.lemmas.Bool.{cases_Bool, cond-true, cond-false, cond_both,
 use Rattle.std.proofs.lemmas.List.Folds.{list_any-append}
 use Rattle.rs_path.specs.Paths.{Path, same_path, is_nil, is_root}
 use Rattle.rs_path.specs.Below.{is_below, is_inside}
-use Rattle.rs_path.proofs.BelowLemmas.{is_below-trans}
+use Rattle.rs_path.proofs.Cited.{is_below-trans}
 use Rattle.rs_record.specs.declared.records.Record.{Record}
 use Rattle.rs_record.specs.declared.records.Record.TheVariants.{Put, Remove, Grant, Revoke}
 use Rattle.rs_rules.specs.declared.log_entry.LogEntry.{LogEntry}

@@ -13,6 +13,7 @@ pub mod CondReadings
 pub mod Answers
 pub mod Lawful
 pub mod Growth
+pub mod Desks
 pub mod Settled
 pub mod Sound
 pub mod Laws

@@ -1,7 +1,8 @@
 //! Desks.
 
-ghost use Rattle.std.specs.Prelude.{◌≡◌, ◌≢◌, ℕ, ◌≤◌, Bool, true};
+ghost use Rattle.std.specs.Prelude.{◌≡◌, ◌≢◌, ℕ, Bool, true};
 ghost use Rattle.rs_rules.specs.Histories.{History};
+ghost use Rattle.rs_rules.specs.Desks.{ForHistory, StaysServed};
 ghost use Rattle.rs_rules.specs.Requests.{is_within_limit};
 
 use crate::request::Request;
@@ -59,10 +60,10 @@ pub trait Desk {
     /// The desk stands for the history, of a user.
     ghost stands: { Self → ℕ → History → Type 0 };
 
-    /// The quota of a user, in bytes. It stays the same.
+    /// The quota of a user, in bytes.
     ghost quota: { Self → ℕ → ℕ };
 
-    /// Under which number the desk makes entries in the history of a user. It stays the same.
+    /// Under which number the desk makes entries in the history of a user.
     ghost me: { Self → ℕ → ℕ };
 
     /// Nobody else makes entries.
@@ -84,14 +85,9 @@ pub trait Desk {
     fn turn(&mut self, user: u32, request: &Request) -> Result<Turn, DeskFault>
         requires served { serves self.old user }
         requires body { is_within_limit request.now ≡ true }
-        ensures turned { (h : History) → stands self.old user h → (now : History) × stands self.new user now
-            × Turned h now (quota self.old user) (me self.old user) (alone self.old) request.now result (faults self.old) (faults self.new) }
+        ensures turned { ForHistory (stands self.old user) (stands self.new user) (λ old now.
+            Turned old now (quota self.old user) (me self.old user) (alone self.old) request.now result (faults self.old) (faults self.new)) }
         ensures others { (other : ℕ) (h : History) → other ≢ user → stands self.old other h → stands self.new other h }
-        ensures users { (other : ℕ) → serves self.old other → serves self.new other }
-        ensures same_quota { quota self.new ≡ quota self.old }
-        ensures same_number { me self.new ≡ me self.old }
-        ensures same_alone { alone self.new ≡ alone self.old }
-        ensures later { faults self.old ≤ faults self.new }
         ensures is_later { is_later self.old self.new };
 
     /// No turn at all.
@@ -99,4 +95,9 @@ pub trait Desk {
 
     /// Some turns, and then some more.
     ghost goes_on: { (a b c : Self) → is_later a b → is_later b c → is_later a c };
+
+    ghost use Rattle.rs_rules.specs.Desks.{StaysServed};
+
+    /// A later desk serves the same users under the same quotas and numbers, is as alone, and has no fewer faults.
+    ghost keeps: { (old new : Self) → is_later old new → StaysServed serves quota me alone faults old new };
 }

@@ -1,6 +1,7 @@
-pub mod SplitLemmas
-pub mod ScopeLemmas
-pub mod ReadingLemmas
-pub mod ReachLemmas
-pub mod RootLemmas
-pub mod TokenLemmas
+pub mod Cited
+mod SplitLemmas
+mod ScopeLemmas
+mod ReadingLemmas
+mod ReachLemmas
+mod RootLemmas
+mod TokenLemmas

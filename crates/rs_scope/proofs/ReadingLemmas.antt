@@ -11,7 +11,7 @@ use Rattle.rs_scope.specs.declared.scope.Scope.{Scope}
 use Rattle.rs_scope.specs.declared.scope_fault.ScopeFault.{ScopeFault}
 use Rattle.rs_scope.specs.declared.scope_fault.ScopeFault.TheVariants.{Bad, NoMemory}
 use Rattle.rs_scope.specs.Scopes.{scope_text, scopes_text, is_scope, is_scopes}
-use Rattle.rs_scope.specs.ScopeReadings.{scope_reading, scopes_with, go_on, some_scopes, words_reading, is_space, scopes_reading, Reads, ReadsWord, items_in}
+use Rattle.rs_scope.specs.ScopeReadings.{scope_reading, scopes_with, after_word, some_scopes, words_reading, is_space, scopes_reading, ReadsAsScopes, ReadsWord, scopes_made}
 use Rattle.rs_scope.proofs.ScopeLemmas.{scope_reading-some, scope_reading-text, scope_without_space, scope_some}
 
 -- ---- lengths
@@ -90,7 +90,7 @@ scopes_with-fits scopes (byte ∷ word) more room made fits = with_fits scopes (
 -- one word and then the others
 word_fits : (place : ℕ) (before : List Scope) (word : List ℕ) (words : List (List ℕ)) (scopes : List Scope) (room : ℕ) (found : Option (List Scope))
     → scopes_with before word ≡ found
-    → go_on found place (λ more. words_reading (place + length word + 1) more words) ≡ Ok scopes → Fits before room
+    → after_word found place (λ more. words_reading (place + length word + 1) more words) ≡ Ok scopes → Fits before room
     → ((more : List Scope) → words_reading (place + length word + 1) more words ≡ Ok scopes → Fits more (room + (length word + 1))
     → Fits scopes (room + (length word + 1) + spaced words) × (is_nil scopes ≡ false))
     → Fits scopes (room + spaced (word ∷ words)) × (is_nil scopes ≡ false)
@@ -130,7 +130,7 @@ words_lawful text scopes room read =
 
 -- what a call read of the words is lawful
 pub lawful : {Z : Type 0} (text : List ℕ) (r : Result (Vec Scope Z) ScopeFault) → length text ≤ 1024
-    → Reads (items_in r) (words_reading 0 [] (slice_split is_space text)) → IfOk r (λ scopes. is_scopes scopes.items ≡ true)
+    → ReadsAsScopes (scopes_made r) (words_reading 0 [] (slice_split is_space text)) → IfOk r (λ scopes. is_scopes scopes.items ≡ true)
 lawful text (Ok scopes) room read = words_lawful text scopes.items room read
 lawful text (Err fault) room read = tt
 
@@ -182,7 +182,7 @@ words_reading-texts : (place : ℕ) (before scopes : List Scope) → list_all is
 words_reading-texts place before [] all = ap some_scopes (sym (append-nil before))
 words_reading-texts place before (scope ∷ scopes) all =
     let parts = and_parts (is_scope scope) (list_all is_scope scopes) all in
-    ap (λ found. go_on found place (λ more. words_reading (place + length (scope_text scope) + 1) more (map scope_text scopes))) (scopes_with-text before scope parts.0)
+    ap (λ found. after_word found place (λ more. words_reading (place + length (scope_text scope) + 1) more (map scope_text scopes))) (scopes_with-text before scope parts.0)
     ∙ words_reading-texts (place + length (scope_text scope) + 1) (before ++ scope ∷ []) scopes parts.1
     ∙ ap some_scopes (append_assoc before (scope ∷ []) scopes)
 
@@ -215,7 +215,7 @@ scopes_text-first (next ∷ scopes) first some is =
 
 -- ---- the loop
 
-pub Reads_same : (r wanted : Result (List Scope) ScopeFault) → wanted ≡ r → Reads r wanted
+pub Reads_same : (r wanted : Result (List Scope) ScopeFault) → wanted ≡ r → ReadsAsScopes r wanted
 Reads_same (Ok scopes) wanted same = same
 Reads_same (Err (Bad place)) wanted same = same
 Reads_same (Err NoMemory) wanted same = tt
@@ -224,12 +224,12 @@ Reads_same (Err NoMemory) wanted same = tt
 pub words_more : (place : ℕ) (scopes : List Scope) (word : List ℕ) (more : List Scope) (words : List (List ℕ)) → scopes_with scopes word ≡ Some more
     → words_reading place scopes (word ∷ words) ≡ words_reading (place + length word + 1) more words
 words_more place scopes word more words made =
-    ap (λ found. go_on found place (λ more. words_reading (place + length word + 1) more words)) made
+    ap (λ found. after_word found place (λ more. words_reading (place + length word + 1) more words)) made
 
 -- the fault of a word is that of the whole
 pub Reads_fault : (place : ℕ) (before scopes : List Scope) (word : List ℕ) (words : List (List ℕ)) (fault : ScopeFault)
-    → ReadsWord (Err fault) place scopes (scopes_with before word) → Reads (Err fault) (words_reading place before (word ∷ words))
+    → ReadsWord (Err fault) place scopes (scopes_with before word) → ReadsAsScopes (Err fault) (words_reading place before (word ∷ words))
 Reads_fault place before scopes word words (Bad at) read =
     let wrong = read.0 in
-    rw read.1 (ap (λ found. go_on found place (λ more. words_reading (place + length word + 1) more words)) wrong)
+    rw read.1 (ap (λ found. after_word found place (λ more. words_reading (place + length word + 1) more words)) wrong)
 Reads_fault place before scopes word words NoMemory read = tt

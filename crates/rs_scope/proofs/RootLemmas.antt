@@ -19,7 +19,7 @@ use Rattle.rs_scope.specs.declared.scope.Reach.TheVariants.{Module, Star}
 use Rattle.rs_scope.specs.declared.scope.Scope.{Scope}
 use Rattle.rs_scope.specs.Modules.{is_module, is_module_byte, public_name}
 use Rattle.rs_scope.specs.Reach.{is_within, module_folder, public_folder, covers, allows, reach_of}
-use Rattle.rs_scope.specs.Roots.{is_all, is_star, placed, with_root, with_reach, with_modules, roots_of, is_ascending, is_root_by}
+use Rattle.rs_scope.specs.Roots.{is_all, is_star, placed_root, with_root, with_reach, with_modules, roots_of, are_ascending, is_root_by}
 use Rattle.rs_scope.proofs.ScopeLemmas.{HasModule-from}
 
 -- ---- a module's name is a name
@@ -79,7 +79,7 @@ before_this root roots i d within so_far less =
     let here = at_drop roots i d within in
     so_far
     ∙ ap (λ t. take i roots ++ with_root root t) here
-    ∙ ap (λ o. take i roots ++ placed o root (get_or roots i d) (drop (suc i) roots) (with_root root (drop (suc i) roots))) less
+    ∙ ap (λ o. take i roots ++ placed_root o root (get_or roots i d) (drop (suc i) roots) (with_root root (drop (suc i) roots))) less
     ∙ ap (λ t. take i roots ++ root ∷ t) (sym here)
 
 -- the root is the one at the index
@@ -89,7 +89,7 @@ this_one root roots i d within so_far equal =
     let here = at_drop roots i d within in
     so_far
     ∙ ap (λ t. take i roots ++ with_root root t) here
-    ∙ ap (λ o. take i roots ++ placed o root (get_or roots i d) (drop (suc i) roots) (with_root root (drop (suc i) roots))) equal
+    ∙ ap (λ o. take i roots ++ placed_root o root (get_or roots i d) (drop (suc i) roots) (with_root root (drop (suc i) roots))) equal
     ∙ ap (λ t. take i roots ++ t) (sym here)
     ∙ take-append-drop i roots
 
@@ -101,7 +101,7 @@ behind_this root roots i d within so_far greater =
     let next : i + 1 ≡ suc i = omega arith in
     so_far
     ∙ ap (λ t. take i roots ++ with_root root t) here
-    ∙ ap (λ o. take i roots ++ placed o root (get_or roots i d) (drop (suc i) roots) (with_root root (drop (suc i) roots))) greater
+    ∙ ap (λ o. take i roots ++ placed_root o root (get_or roots i d) (drop (suc i) roots) (with_root root (drop (suc i) roots))) greater
     ∙ sym (append_assoc (take i roots) (get_or roots i d ∷ []) (with_root root (drop (suc i) roots)))
     ∙ ap (λ t. t ++ with_root root (drop (suc i) roots)) (sym (take_more roots i d within))
     ∙ ap (λ n. take n roots ++ with_root root (drop n roots)) (sym next)
@@ -127,7 +127,7 @@ twice_or false c = refl
 
 placed-any : (test : Path → Bool) (root other : Path) (rest behind : List Path) (o : Ordering) → path_cmp root other ≡ o
     → list_any test behind ≡ (test root || list_any test rest)
-    → list_any test (placed o root other rest behind) ≡ (test root || (test other || list_any test rest))
+    → list_any test (placed_root o root other rest behind) ≡ (test root || (test other || list_any test rest))
 placed-any test root other rest behind Less is later = refl
 placed-any test root other rest behind Equal is later =
     twice_or (test other) (list_any test rest) ∙ ap (λ p. test p || (test other || list_any test rest)) (sym (tied_same root other is))
@@ -267,7 +267,7 @@ above_all root other (path ∷ roots) less all =
     and_from _ _ (ap is_lt (path_cmp_total.trans root other path less (is_less (path_cmp other path) parts.0))) (above_all root other roots less parts.1)
 
 placed-all : (test : Path → Bool) (root other : Path) (rest behind : List Path) (o : Ordering) → test root ≡ true → list_all test (other ∷ rest) ≡ true
-    → (list_all test rest ≡ true → list_all test behind ≡ true) → list_all test (placed o root other rest behind) ≡ true
+    → (list_all test rest ≡ true → list_all test behind ≡ true) → list_all test (placed_root o root other rest behind) ≡ true
 placed-all test root other rest behind Less first all later = and_from _ _ first all
 placed-all test root other rest behind Equal first all later = all
 placed-all test root other rest behind Greater first all later =
@@ -283,34 +283,34 @@ all_with_root test root (other ∷ roots) first all =
 abbrev is_below_all : Path → List Path → Bool
 is_below_all path roots = list_all (λ other. is_lt (path_cmp path other)) roots
 
-placed-ascending : (root other : Path) (rest : List Path) (o : Ordering) → path_cmp root other ≡ o → is_ascending (other ∷ rest) ≡ true
-    → (is_ascending rest ≡ true → is_ascending (with_root root rest) ≡ true)
-    → is_ascending (placed o root other rest (with_root root rest)) ≡ true
+placed-ascending : (root other : Path) (rest : List Path) (o : Ordering) → path_cmp root other ≡ o → are_ascending (other ∷ rest) ≡ true
+    → (are_ascending rest ≡ true → are_ascending (with_root root rest) ≡ true)
+    → are_ascending (placed_root o root other rest (with_root root rest)) ≡ true
 placed-ascending root other rest Less is order later =
-    let parts = and_parts (is_below_all other rest) (is_ascending rest) order in
+    let parts = and_parts (is_below_all other rest) (are_ascending rest) order in
     and_from _ _ (and_from _ _ (ap is_lt is) (above_all root other rest is parts.0)) order
 placed-ascending root other rest Equal is order later = order
 placed-ascending root other rest Greater is order later =
-    let parts = and_parts (is_below_all other rest) (is_ascending rest) order in
+    let parts = and_parts (is_below_all other rest) (are_ascending rest) order in
     let less = turned (path_cmp other root) (sym is ∙ path_cmp_total.antisymm root other) in
     and_from _ _ (all_with_root (λ path. is_lt (path_cmp other path)) root rest (ap is_lt less) parts.0) (later parts.1)
 
-with_root-ascending : (root : Path) (roots : List Path) → is_ascending roots ≡ true → is_ascending (with_root root roots) ≡ true
+with_root-ascending : (root : Path) (roots : List Path) → are_ascending roots ≡ true → are_ascending (with_root root roots) ≡ true
 with_root-ascending root [] order = refl
 with_root-ascending root (other ∷ roots) order = placed-ascending root other roots (path_cmp root other) refl order (with_root-ascending root roots)
 
-with_reach-ascending : (roots : List Path) (reach : Reach) → is_ascending roots ≡ true → is_ascending (with_reach roots reach) ≡ true
+with_reach-ascending : (roots : List Path) (reach : Reach) → are_ascending roots ≡ true → are_ascending (with_reach roots reach) ≡ true
 with_reach-ascending roots (Module name) order =
     with_root-ascending (public_folder name) (with_root (module_folder name) roots) (with_root-ascending (module_folder name) roots order)
 with_reach-ascending roots Star order = order
 
-with_modules-ascending : (roots : List Path) (scopes : List Scope) → is_ascending roots ≡ true → is_ascending (with_modules roots scopes) ≡ true
+with_modules-ascending : (roots : List Path) (scopes : List Scope) → are_ascending roots ≡ true → are_ascending (with_modules roots scopes) ≡ true
 with_modules-ascending roots [] order = order
 with_modules-ascending roots (scope ∷ scopes) order = with_modules-ascending (with_reach roots scope.reach) scopes (with_reach-ascending roots scope.reach order)
 
-pub roots_ascend : (scopes : List Scope) → is_ascending (roots_of scopes) ≡ true
+pub roots_ascend : (scopes : List Scope) → are_ascending (roots_of scopes) ≡ true
 roots_ascend scopes =
     ⊎_elim
-    (λ star. ap is_ascending (cond-true _ _ _ star))
-    (λ no_star. ap is_ascending (cond-false _ _ _ no_star) ∙ with_modules-ascending [] scopes refl)
+    (λ star. ap are_ascending (cond-true _ _ _ star))
+    (λ no_star. ap are_ascending (cond-false _ _ _ no_star) ∙ with_modules-ascending [] scopes refl)
     (cases_Bool (list_any is_star scopes))

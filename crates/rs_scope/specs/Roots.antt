@@ -19,15 +19,15 @@ abbrev pub is_star : Scope → Bool
 is_star scope = is_all scope.reach
 
 -- a root before, in place of or behind another one
-abbrev pub placed : Ordering → Path → Path → List Path → List Path → List Path
-placed Less root other rest behind = root ∷ other ∷ rest
-placed Equal root other rest behind = other ∷ rest
-placed Greater root other rest behind = other ∷ behind
+abbrev pub placed_root : Ordering → Path → Path → List Path → List Path → List Path
+placed_root Less root other rest behind = root ∷ other ∷ rest
+placed_root Equal root other rest behind = other ∷ rest
+placed_root Greater root other rest behind = other ∷ behind
 
 -- the ascending roots and one more in its place, unless it is there
 abbrev pub with_root : Path → List Path → List Path
 with_root root [] = root ∷ []
-with_root root (other ∷ rest) = placed (path_cmp root other) root other rest (with_root root rest)
+with_root root (other ∷ rest) = placed_root (path_cmp root other) root other rest (with_root root rest)
 
 -- the roots and the two folders of a module
 abbrev pub with_reach : List Path → Reach → List Path
@@ -44,9 +44,9 @@ abbrev pub roots_of : List Scope → List Path
 roots_of scopes = if list_any is_star scopes then folder_at [] ∷ [] else with_modules [] scopes
 
 -- each path is greater than those before it
-abbrev pub is_ascending : List Path → Bool
-is_ascending [] = true
-is_ascending (path ∷ paths) = list_all (λ other. is_lt (path_cmp path other)) paths && is_ascending paths
+abbrev pub are_ascending : List Path → Bool
+are_ascending [] = true
+are_ascending (path ∷ paths) = list_all (λ other. is_lt (path_cmp path other)) paths && are_ascending paths
 
 -- the path is one of the two folders of the module
 abbrev pub is_root_by : Reach → Path → Bool

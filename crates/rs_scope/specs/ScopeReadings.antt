@@ -10,6 +10,7 @@ use Rattle.rs_scope.specs.declared.scope_fault.ScopeFault.{ScopeFault}
 use Rattle.rs_scope.specs.declared.scope_fault.ScopeFault.TheVariants.{Bad, NoMemory}
 use Rattle.rs_scope.specs.Modules.{is_module}
 use Rattle.rs_scope.specs.Scopes.{access_text}
+use Rattle.rs_scope.specs.Limits.{max_scopes}
 
 -- what this text names: all for a star, else a module
 abbrev pub reach_reading : List ℕ → Option Reach
@@ -39,9 +40,9 @@ scopes_with scopes word = if is_nil word then Some scopes
     else option_map (λ scope. scopes ++ scope ∷ []) (scope_reading word)
 
 -- what follows a word, or the fault of the word at its place
-abbrev pub go_on : Option (List Scope) → ℕ → (List Scope → Result (List Scope) ScopeFault) → Result (List Scope) ScopeFault
-go_on None place reading = Err (Bad place)
-go_on (Some scopes) place reading = reading scopes
+abbrev pub after_word : Option (List Scope) → ℕ → (List Scope → Result (List Scope) ScopeFault) → Result (List Scope) ScopeFault
+after_word None place reading = Err (Bad place)
+after_word (Some scopes) place reading = reading scopes
 
 -- at least one scope, else the fault is at the text's first byte
 abbrev pub some_scopes : List Scope → Result (List Scope) ScopeFault
@@ -50,7 +51,7 @@ some_scopes scopes = if is_nil scopes then Err (Bad 0) else Ok scopes
 -- these scopes and those of the words, of which the first begins at the place
 abbrev pub words_reading : ℕ → List Scope → List (List ℕ) → Result (List Scope) ScopeFault
 words_reading place scopes [] = some_scopes scopes
-words_reading place scopes (word ∷ words) = go_on (scopes_with scopes word) place
+words_reading place scopes (word ∷ words) = after_word (scopes_with scopes word) place
     (λ more. words_reading (place + length word + 1) more words)
 
 abbrev pub is_space : ℕ → Bool
@@ -59,14 +60,14 @@ is_space byte = byte == 32
 -- the scopes of a text: items parted by spaces. A text of more than 1,024 bytes is at fault there; otherwise
 -- the first item that is none is at fault at its first byte
 abbrev pub scopes_reading : List ℕ → Result (List Scope) ScopeFault
-scopes_reading text = if nat_lt 1024 (length text) then Err (Bad 1024)
+scopes_reading text = if nat_lt max_scopes (length text) then Err (Bad max_scopes)
     else words_reading 0 [] (slice_split is_space text)
 
 -- the call read this, or memory ran out
-abbrev pub Reads : Result (List Scope) ScopeFault → Result (List Scope) ScopeFault → Type 0
-Reads (Ok scopes) wanted = wanted ≡ Ok scopes
-Reads (Err (Bad place)) wanted = wanted ≡ Err (Bad place)
-Reads (Err NoMemory) wanted = Unit {0}
+abbrev pub ReadsAsScopes : Result (List Scope) ScopeFault → Result (List Scope) ScopeFault → Type 0
+ReadsAsScopes (Ok scopes) wanted = wanted ≡ Ok scopes
+ReadsAsScopes (Err (Bad place)) wanted = wanted ≡ Err (Bad place)
+ReadsAsScopes (Err NoMemory) wanted = Unit {0}
 
 -- the same of one word at the place
 abbrev pub ReadsScope : Result Scope ScopeFault → ℕ → Option Scope → Type 0
@@ -86,6 +87,6 @@ rest_words None = []
 rest_words (Some rest) = slice_split is_space rest
 
 -- the scopes in a list that a call made
-abbrev pub items_in : {Z : Type 0} → Result (Vec Scope Z) ScopeFault → Result (List Scope) ScopeFault
-items_in (Ok scopes) = Ok scopes.items
-items_in (Err fault) = Err fault
+abbrev pub scopes_made : {Z : Type 0} → Result (Vec Scope Z) ScopeFault → Result (List Scope) ScopeFault
+scopes_made (Ok scopes) = Ok scopes.items
+scopes_made (Err fault) = Err fault

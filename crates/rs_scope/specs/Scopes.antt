@@ -6,6 +6,7 @@ use Rattle.rs_scope.specs.declared.scope.Reach.{Reach}
 use Rattle.rs_scope.specs.declared.scope.Reach.TheVariants.{Module, Star}
 use Rattle.rs_scope.specs.declared.scope.Scope.{Scope}
 use Rattle.rs_scope.specs.Modules.{is_module}
+use Rattle.rs_scope.specs.Limits.{max_scopes}
 
 -- a star, or the module's name
 abbrev pub reach_text : Reach → List ℕ
@@ -34,4 +35,4 @@ is_scope scope = is_reach scope.reach
 
 -- at least one scope, with a text of at most 1,024 bytes
 abbrev pub is_scopes : List Scope → Bool
-is_scopes scopes = not (is_nil scopes) && list_all is_scope scopes && nat_le (length (scopes_text scopes)) 1024
+is_scopes scopes = not (is_nil scopes) && list_all is_scope scopes && nat_le (length (scopes_text scopes)) max_scopes

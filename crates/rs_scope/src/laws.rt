@@ -9,7 +9,7 @@ ghost use Rattle.rs_scope.specs.declared.scope.Scope.{Scope};
 ghost use Rattle.rs_scope.specs.declared.scope.Reach.TheVariants.{Module};
 ghost use Rattle.rs_scope.specs.Modules.{is_module};
 ghost use Rattle.rs_scope.specs.Reach.{is_within, is_reading, covers, reach_of, is_free_read};
-ghost use Rattle.rs_scope.specs.Roots.{roots_of, is_star, is_ascending, is_root_by};
+ghost use Rattle.rs_scope.specs.Roots.{roots_of, is_star, are_ascending, is_root_by};
 
 /// No module's path is another's; whoever may write may read; what needs no token is read.
 pub fn reach_laws()
@@ -25,5 +25,5 @@ pub fn root_laws()
     ensures held { (s : List Scope) (p : Path) → is_path p ≡ true → list_any (λ root. is_within root p) (roots_of s) ≡ reach_of s Method.Get p }
     ensures members { (s : List Scope) (p : Path) → list_any is_star s ≡ false
         → list_any (same_path p) (roots_of s) ≡ list_any (λ scope. is_root_by scope.reach p) s }
-    ensures ascending { (s : List Scope) → is_ascending (roots_of s) ≡ true }
+    ensures ascending { (s : List Scope) → are_ascending (roots_of s) ≡ true }
 {}

@@ -2,6 +2,7 @@
 #![tactic(auto)]
 
 mod laws;
+mod limits;
 mod method;
 mod module;
 mod reach;
@@ -15,6 +16,7 @@ mod tests;
 mod token;
 
 pub use laws::{reach_laws, root_laws};
+pub use limits::{MAX_MODULE, MAX_SCOPES, limit_laws};
 pub use method::Method;
 pub use module::Module;
 pub use reach::{free_read, reaches};

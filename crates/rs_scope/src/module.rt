@@ -8,15 +8,13 @@ ghost use Rattle.std.proofs.lemmas.Cmp.{nat_list_eq_equiv};
 ghost use Rattle.rs_path.specs.Names.{is_dots};
 ghost use Rattle.rs_scope.specs.Modules.{is_module, is_module_byte, public_name};
 
+use crate::limits::MAX_MODULE;
 use rs_path::NoMemory;
 use std::alloc::Global;
 use std::marker::Model;
 
 /// The name of the folder of public documents, which is no module's.
 pub const PUBLIC: &[u8] = b"public";
-
-/// The greatest number of bytes of a module's name.
-pub const MAX_MODULE: usize = 64;
 
 /// The name of a module: 1 to 64 bytes of `a` to `z`, digits, `-`, `_` and `.`, and neither `public`, `.` nor `..`.
 ///

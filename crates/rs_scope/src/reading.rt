@@ -2,32 +2,33 @@
 
 ghost use Rattle.std.specs.Prelude.{◌≡◌, ◌+◌, ◌<◌, ◌≤◌, ◌∷◌, [], length, IfOk, IfSome, IsTrue, option_copied, position};
 ghost use Rattle.std.specs.List.{slice_split};
+ghost use Rattle.rs_scope.specs.Limits.{max_scopes};
 ghost use Rattle.rs_scope.specs.Scopes.{is_scopes};
-ghost use Rattle.rs_scope.specs.ScopeReadings.{scope_over, scope_reading, scopes_with, scopes_reading, words_reading, some_scopes, items_in, is_space, rest_words, Reads, ReadsScope, ReadsWord};
+ghost use Rattle.rs_scope.specs.ScopeReadings.{scope_over, scope_reading, scopes_with, scopes_reading, words_reading, some_scopes, scopes_made, is_space, rest_words, ReadsAsScopes, ReadsScope, ReadsWord};
 
+use crate::limits::MAX_SCOPES;
 use crate::module::Module;
 use crate::scope::{Reach, Scope};
 use crate::scope_fault::ScopeFault;
 use std::alloc::Global;
 
-/// The greatest number of bytes of a text of scopes.
-pub const MAX_TEXT: usize = 1024;
-
 /// The scopes of a text, in their order.
 pub(crate) fn read_scopes(alloc: Global, text: &[u8]) -> Result<Vec<Scope>, ScopeFault>
-    ensures read { Reads (items_in result) (scopes_reading text.now) }
+    ensures read { ReadsAsScopes (scopes_made result) (scopes_reading text.now) }
     ensures scopes { IfOk result (λ scopes. IsTrue (is_scopes scopes.items)) }
 {
-    if text.len() > MAX_TEXT {
-        return Err(ScopeFault::Bad { place: 1024 });
+    if text.len() > MAX_SCOPES {
+        return Err(ScopeFault::Bad {
+            place: MAX_SCOPES as u32,
+        });
     }
     read_words(alloc, text)
 }
 
 // The scopes of the words between the spaces.
 fn read_words(alloc: Global, text: &[u8]) -> Result<Vec<Scope>, ScopeFault>
-    requires { length text.now ≤ 1024 }
-    ensures { Reads (items_in result) (words_reading 0 [] (slice_split is_space text.now)) }
+    requires { length text.now ≤ max_scopes }
+    ensures { ReadsAsScopes (scopes_made result) (words_reading 0 [] (slice_split is_space text.now)) }
 {
     let mut scopes = Vec::new(alloc);
     let mut place = 0;
@@ -45,7 +46,7 @@ fn read_words(alloc: Global, text: &[u8]) -> Result<Vec<Scope>, ScopeFault>
 
 // The scopes, unless there is none.
 fn some_scopes(scopes: Vec<Scope>) -> Result<Vec<Scope>, ScopeFault>
-    ensures { items_in result ≡ some_scopes scopes.items }
+    ensures { scopes_made result ≡ some_scopes scopes.items }
 {
     if scopes.is_empty() {
         return Err(ScopeFault::Bad { place: 0 });

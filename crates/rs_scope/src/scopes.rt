@@ -2,8 +2,9 @@
 
 ghost use Rattle.std.specs.Prelude.{◌≡◌, ◌++◌, ◌∷◌, ◌≤◌, length, Ok, IfOk, OnOk, OnErr, IsTrue};
 ghost use Rattle.std.specs.List.{flat_map};
+ghost use Rattle.rs_scope.specs.Limits.{max_scopes};
 ghost use Rattle.rs_scope.specs.Scopes.{is_scopes, scope_text, scopes_text};
-ghost use Rattle.rs_scope.specs.ScopeReadings.{scopes_reading, Reads};
+ghost use Rattle.rs_scope.specs.ScopeReadings.{scopes_reading, ReadsAsScopes};
 ghost use Rattle.rs_scope.specs.Roots.{roots_of};
 
 use crate::reading::read_scopes;
@@ -43,7 +44,7 @@ impl Scopes {
     /// Spaces may also stand before the first item and after the last. A text of more than 1,024 bytes is refused at
     /// 1,024, one without an item at 0, any other at the first byte of its first wrong item.
     pub fn read(alloc: Global, text: &[u8]) -> Result<Scopes, ScopeFault>
-        ensures read { Reads result (scopes_reading text.now) }
+        ensures read { ReadsAsScopes result (scopes_reading text.now) }
     {
         Ok(Scopes {
             list: read_scopes(alloc, text)?,
@@ -54,7 +55,7 @@ impl Scopes {
     pub fn as_slice(&self) -> &[Scope]
         ensures scopes { result.now ≡ self.now }
         ensures lawful { IsTrue (is_scopes self.now) }
-        ensures short { length (scopes_text self.now) ≤ 1024 }
+        ensures short { length (scopes_text self.now) ≤ max_scopes }
     {
         self.list.as_slice()
     }
@@ -64,7 +65,7 @@ impl Scopes {
         ensures ok { OnOk result (out.new.items ≡ out.old.items ++ scopes_text self.now) }
         ensures err { OnErr result (out.new.items ≡ out.old.items) }
         ensures back { scopes_reading (scopes_text self.now) ≡ Ok self.now }
-        ensures short { length (scopes_text self.now) ≤ 1024 }
+        ensures short { length (scopes_text self.now) ≤ max_scopes }
     {
         let text = text_of(self.list.as_slice(), *self.list.allocator())?;
         out.extend_from_slice(text.as_slice())?;

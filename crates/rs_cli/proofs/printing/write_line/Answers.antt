@@ -1,6 +1,6 @@
 use Rattle.std.proofs.Common.{[], ◌∷◌}
 use Rattle.std.proofs.lemmas.Result.{err_from_is_err_and}
-use Rattle.rs_face.proofs.ToldLemmas.{Appends-trans, AppendsFront-after}
+use Rattle.rs_face.proofs.Cited.{Appends-trans, AppendsFront-after}
 use Rattle.rs_cli.proofs.SendLemmas.{AppendsFront-longer, Writes-kept}
 use Rattle.rs_cli.proofs.printing.write_line.Goals as goal
 

@@ -1,5 +1,5 @@
 use Rattle.std.proofs.lemmas.Result.{err_from_is_err_and}
-use Rattle.rs_face.proofs.ToldLemmas.{Appends-trans, AppendsFront-after}
+use Rattle.rs_face.proofs.Cited.{Appends-trans, AppendsFront-after}
 use Rattle.rs_front.proofs.SendLemmas.{AppendsFront-longer, Writes-kept}
 use Rattle.rs_front.proofs.sending.send.Goals as goal
 
