@@ -10,10 +10,9 @@ use Rattle.rs_path.specs.declared.entry.Entry.{Entry}
 use Rattle.rs_path.specs.Kinds.{is_kind}
 use Rattle.rs_path.specs.Tags.{is_tag}
 use Rattle.rs_path.specs.Keys.{key_text}
-use Rattle.rs_path.specs.Items.{entry_key}
-use Rattle.rs_path.proofs.Cited.{name_text}
-use Rattle.rs_path.proofs.Cited.{kind_text, tag_text}
-use Rattle.rs_folder.specs.Descriptions.{holds_of, is_length, is_entry, member_text, with_commas, braced, length_members, kind_members, tag_members, entry_text, context, folder_text}
+use Rattle.rs_path.specs.Items.{entry_key, holds_of, is_u64, is_entry}
+use Rattle.rs_path.proofs.Cited.{kind_text, name_text, tag_text}
+use Rattle.rs_folder.specs.Descriptions.{member_text, with_commas, braced, length_members, kind_members, tag_members, entry_text, context, folder_text}
 use Rattle.rs_folder.proofs.PartLemmas.{HasParts-from}
 
 member_utf8 : (key value : List ℕ) → IsUtf8 key → IsUtf8 value → IsUtf8 (member_text key value)
@@ -45,7 +44,7 @@ key_utf8 : (name : List ℕ) (folder : Bool) → IsUtf8 name → IsUtf8 (key_tex
 key_utf8 name true u = IsUtf8-append name (47 ∷ []) u (IsUtf8-are_ascii (47 ∷ []) refl)
 key_utf8 name false u = u
 
-length_utf8 : (length : Option ℕ) → holds_of is_length length ≡ true → AreTexts (length_members length)
+length_utf8 : (length : Option ℕ) → holds_of is_u64 length ≡ true → AreTexts (length_members length)
 length_utf8 None is = tt
 length_utf8 (Some n) is =
     let text = IsUtf8-from_ascii (decimal n) (IsAscii-decimal n (ltb-true n (2 ^ 64) is)) in

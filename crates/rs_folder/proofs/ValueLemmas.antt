@@ -16,8 +16,8 @@ use Rattle.serde_json.specs.Written.{outline, members_outline}
 use Rattle.serde_json.proofs.Numbers.{number_of-decimal}
 use Rattle.serde_json.proofs.Texts.{print-outline}
 use Rattle.rs_path.specs.declared.entry.Entry.{Entry}
-use Rattle.rs_path.specs.Items.{is_ascending}
-use Rattle.rs_folder.specs.Descriptions.{holds_of, is_length, is_entry, folder_text}
+use Rattle.rs_path.specs.Items.{is_ascending, holds_of, is_u64, is_entry}
+use Rattle.rs_folder.specs.Descriptions.{folder_text}
 use Rattle.rs_folder.specs.FolderData.{tag_data, kind_data, length_data, items_data, folder_data}
 use Rattle.rs_folder.proofs.DataLemmas.{put_behind}
 use Rattle.rs_folder.proofs.PartLemmas.{HasParts-from}
@@ -25,7 +25,7 @@ use Rattle.rs_folder.proofs.TextLemmas.{folder_data-text}
 
 -- ---- one item
 
-parts_numbers : (length : Option ℕ) (kind : Option (List ℕ)) (tag : List ℕ) → holds_of is_length length ≡ true
+parts_numbers : (length : Option ℕ) (kind : Option (List ℕ)) (tag : List ℕ) → holds_of is_u64 length ≡ true
     → tree.MembersHaveNumbers (members_outline (length_data length (kind_data kind (tag_data tag))))
 parts_numbers None None tag is = (tt, tt)
 parts_numbers None (Some kind) tag is = (tt, (tt, tt))
@@ -38,7 +38,7 @@ parts_depth None (Some kind) tag = refl
 parts_depth (Some n) None tag = refl
 parts_depth (Some n) (Some kind) tag = refl
 
-parts_read : (length : Option ℕ) (kind : Option (List ℕ)) (tag : List ℕ) → holds_of is_length length ≡ true
+parts_read : (length : Option ℕ) (kind : Option (List ℕ)) (tag : List ℕ) → holds_of is_u64 length ≡ true
     → of_members (members_outline (length_data length (kind_data kind (tag_data tag)))) no_members ≡ Some (length_data length (kind_data kind (tag_data tag)))
 parts_read None None tag is = refl
 parts_read None (Some kind) tag is = refl

@@ -1,25 +1,10 @@
--- The text of a folder description: compact JSON, keys in byte order (draft-dejong-remotestorage, section 4).
-use Rattle.std.specs.Prelude.{ℕ, ◌^◌, Bool, true, ◌&&◌, nat_lt, List, [], ◌∷◌, ◌++◌, map, Option, Some, None, codes, decimal}
+-- The text of a folder description: compact JSON, keys in byte order (draft-dejong-remotestorage,
+-- section 4).
+use Rattle.std.specs.Prelude.{ℕ, List, [], ◌∷◌, ◌++◌, map, Option, Some, None, codes, decimal}
 use Rattle.std.specs.List.{flat_map}
 use Rattle.json.specs.Print.{quoted}
 use Rattle.rs_path.specs.declared.entry.Entry.{Entry}
-use Rattle.rs_path.specs.Names.{is_name}
-use Rattle.rs_path.specs.Tags.{is_tag}
-use Rattle.rs_path.specs.Kinds.{is_kind}
 use Rattle.rs_path.specs.Items.{entry_key}
-
--- the test holds of what is there
-abbrev pub holds_of : {X : Type 0} → (X → Bool) → Option X → Bool
-holds_of test None = true
-holds_of test (Some x) = test x
-
--- a number that a u64 holds
-abbrev pub is_length : ℕ → Bool
-is_length n = nat_lt n (2 ^ 64)
-
--- what the types of an item's parts promise
-abbrev pub is_entry : Entry → Bool
-is_entry entry = is_name entry.name && is_tag entry.tag && holds_of is_kind entry.kind && holds_of is_length entry.length
 
 -- the key in quotes, a colon and the value
 abbrev pub member_text : List ℕ → List ℕ → List ℕ

@@ -38,7 +38,8 @@ item_kind value = passing is_kind (text_at (codes "Content-Type") value)
 
 -- a number `Content-Length` below 2 ^ 64, without point and exponent
 abbrev pub item_length : Data → Option ℕ
-item_length value = option_and_then as_u64 (option_and_then as_number (get (codes "Content-Length") value))
+item_length value =
+    option_and_then as_u64 (option_and_then as_number (get (codes "Content-Length") value))
 
 -- an item with this tag; a folder has neither content type nor length
 abbrev pub item_with : List ℕ → Bool → List ℕ → Data → Entry
@@ -57,7 +58,8 @@ entry_reading key value = if is_name (key_name key)
     else None
 
 -- what follows an item, or the fault of its key
-abbrev pub after_entry : Option Entry → List ℕ → (Entry → Result (List Entry) FolderFault) → Result (List Entry) FolderFault
+abbrev pub after_entry : Option Entry → List ℕ → (Entry → Result (List Entry) FolderFault)
+    → Result (List Entry) FolderFault
 after_entry None key reading = Err (BadItem key)
 after_entry (Some item) key reading = reading item
 

@@ -8,7 +8,8 @@ use Rattle.rs_folder.specs.FolderReadings.{entry_reading}
 -- the key comes before those of the members, byte by byte
 abbrev pub is_before : List ℕ → Members → Bool
 is_before key no_members = true
-is_before key (member other value members) = is_lt (slice_cmp nat_cmp key other) && is_before key members
+is_before key (member other value members) =
+    is_lt (slice_cmp nat_cmp key other) && is_before key members
 
 -- each key comes before those after it
 abbrev pub keys_ascend : Members → Bool
@@ -18,4 +19,5 @@ keys_ascend (member key value members) = is_before key members && keys_ascend me
 -- the keys at which no item is
 abbrev pub wrong_keys : Members → List (List ℕ)
 wrong_keys no_members = []
-wrong_keys (member key value members) = if is_none (entry_reading key value) then key ∷ wrong_keys members else wrong_keys members
+wrong_keys (member key value members) =
+    if is_none (entry_reading key value) then key ∷ wrong_keys members else wrong_keys members

@@ -5,7 +5,6 @@ mod describing;
 mod folder_fault;
 mod item;
 mod laws;
-mod parts;
 mod reading;
 mod writing;
 

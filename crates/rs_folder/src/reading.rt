@@ -41,7 +41,8 @@ fn read_value(alloc: Global, value: &Value) -> Result<Items, FolderFault>
 
 // The members of an object `items`.
 fn members_of(value: &Value) -> Option<&Map<String, Value>>
-    ensures { items_reading (option_map (λ members. members_view members.now.entries) result) ≡ value_reading (Some (view value.now)) }
+    ensures { items_reading (option_map (λ members. members_view members.now.entries) result)
+        ≡ value_reading (Some (view value.now)) }
 {
     match value.get("items") {
         Some(items) => items.as_object(),

@@ -8,7 +8,6 @@ ghost use Rattle.rs_folder.specs.FolderData.{items_data};
 ghost use Rattle.rs_folder.specs.FolderReadings.{folder_reading};
 
 use crate::describing::{description_of, key_of};
-use crate::parts::look_at_entries;
 use rs_path::{Entry, Items, NoMemory};
 use serde_json::{Map, Value, put};
 use std::alloc::Global;
@@ -26,7 +25,6 @@ pub fn write_folder(alloc: Global, items: &Items, out: &mut Vec<u8>) -> Result<(
     ensures err { OnErr result (out.new.items ≡ out.old.items) }
     ensures back { folder_reading (folder_text items.now) ≡ Ok items.now }
 {
-    look_at_entries(items.as_slice());
     let text = text_of(alloc, items.as_slice())?;
     out.extend_from_slice(text.as_bytes())?;
     Ok(())

@@ -76,12 +76,7 @@ fn drain(alloc: Global, reader: &mut RequestReader, out: &mut Vec<u8>) -> Result
 }
 
 /// What the reader makes of the input in pieces: a first one and then others of so many bytes, where 0 is all that is left.
-fn outcome(
-    alloc: Global,
-    input: &[u8],
-    first: usize,
-    size: usize,
-) -> Result<Vec<u8>, Fail> {
+fn outcome(alloc: Global, input: &[u8], first: usize, size: usize) -> Result<Vec<u8>, Fail> {
     let mut out = Vec::new(alloc);
     let mut reader = RequestReader::new(alloc);
     let mut fed = 0;

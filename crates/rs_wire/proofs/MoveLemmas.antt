@@ -10,7 +10,8 @@ use Rattle.rs_wire.specs.declared.body.Part.TheVariants.{Length, Line, Data, Tra
 use Rattle.rs_wire.specs.declared.body.BodyReader.{BodyReader}
 use Rattle.rs_wire.specs.declared.search.Search.{Search}
 use Rattle.rs_wire.specs.declared.search.Spot.TheVariants.{Fresh}
-use Rattle.rs_wire.specs.Limits.{max_body, max_chunk_line, max_trailer}
+use Rattle.rs_path.specs.Limits.{max_body}
+use Rattle.rs_wire.specs.Limits.{max_chunk_line, max_trailer}
 use Rattle.rs_wire.specs.Lines.{first_line, first_empty_line}
 use Rattle.rs_wire.specs.Sought.{IsSought}
 use Rattle.rs_wire.specs.ChunkTexts.{size_of}

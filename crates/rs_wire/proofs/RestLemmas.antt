@@ -14,7 +14,8 @@ use Rattle.rs_wire.specs.declared.body.Part.TheVariants.{Length, Line, Data, Tra
 use Rattle.rs_wire.specs.declared.search.Spot.{Spot}
 use Rattle.rs_wire.specs.declared.search.Search.{Search}
 use Rattle.rs_wire.specs.declared.search.Spot.TheVariants.{Fresh}
-use Rattle.rs_wire.specs.Limits.{max_body, max_chunk_line, max_trailer}
+use Rattle.rs_path.specs.Limits.{max_body}
+use Rattle.rs_wire.specs.Limits.{max_chunk_line, max_trailer}
 use Rattle.rs_wire.specs.Lines.{next_spot, first_line, first_empty_line}
 use Rattle.rs_wire.specs.ChunkTexts.{size_of}
 use Rattle.rs_wire.specs.Bodies.{ended, Turn, waits, goes, ends, fails, fault_at, part_after, next_part, size_turn, line_turn, trailer_turn, has_line_end, turn, first_part, body_from}

@@ -12,7 +12,8 @@ use Rattle.rs_wire.specs.declared.body.Part.TheVariants.{Length, Line, Data, Tra
 use Rattle.rs_wire.specs.declared.head.Begun.{Begun}
 use Rattle.rs_wire.specs.declared.message.RequestMessage.{RequestMessage}
 use Rattle.rs_wire.specs.declared.search.Spot.TheVariants.{Before, Fresh}
-use Rattle.rs_wire.specs.Limits.{max_head, max_body, max_chunk_line, max_trailer}
+use Rattle.rs_path.specs.Limits.{max_body}
+use Rattle.rs_wire.specs.Limits.{max_head, max_chunk_line, max_trailer}
 use Rattle.rs_wire.specs.Lines.{is_break, past_breaks, first_line, first_empty_line}
 use Rattle.rs_wire.specs.ChunkTexts.{size_of}
 use Rattle.rs_wire.specs.RequestHeads.{judged_request, with_length, head_at}

@@ -15,7 +15,8 @@ use Rattle.rs_wire.specs.declared.head.Begun.{Begun}
 use Rattle.rs_wire.specs.declared.message.RequestMessage.{RequestMessage}
 use Rattle.rs_wire.specs.declared.body.Part.{Part}
 use Rattle.rs_wire.specs.declared.body.Part.TheVariants.{Length, Line, Data, Trailer}
-use Rattle.rs_wire.specs.Limits.{max_head, max_fields, max_target, max_body, max_chunk_line, max_trailer, max_message}
+use Rattle.rs_path.specs.Limits.{max_body}
+use Rattle.rs_wire.specs.Limits.{max_head, max_fields, max_target, max_chunk_line, max_trailer, max_message}
 use Rattle.rs_wire.specs.declared.search.Spot.TheVariants.{Before, Fresh}
 use Rattle.rs_wire.specs.Lines.{is_break, first_line, first_empty_line}
 use Rattle.rs_wire.specs.ChunkTexts.{size_of}

@@ -8,18 +8,20 @@ use Rattle.rs_wire.specs.declared.framing.Framing.TheVariants as framed
 use Rattle.rs_wire.specs.declared.body.Part.{Part}
 use Rattle.rs_wire.specs.declared.body.Part.TheVariants.{Length, Line, Data, Trailer}
 use Rattle.rs_wire.specs.declared.search.Spot.TheVariants.{Fresh}
-use Rattle.rs_wire.specs.Limits.{max_body, max_chunk_line, max_trailer}
+use Rattle.rs_path.specs.Limits.{max_body}
+use Rattle.rs_wire.specs.Limits.{max_chunk_line, max_trailer}
 use Rattle.rs_wire.specs.Lines.{first_line, first_empty_line}
 use Rattle.rs_wire.specs.ChunkTexts.{size_of}
 
--- what the bytes after a head hold of the body: not yet all of it, the body and the place after it, or a fault
+-- what the bytes after a head hold of the body: not yet all of it, the body and the place after it,
+-- or a fault
 pub data Body : Type 0 where
   unended : Body
   ended : List ℕ → ℕ → Body
   spoiled : WireFault → Body
 
--- what a part of a body comes to: more is needed; the next part, with the body so far, after so many bytes; the whole body,
--- after so many bytes; or a fault
+-- what a part of a body comes to: more is needed; the next part, with the body so far, after so
+-- many bytes; the whole body, after so many bytes; or a fault
 pub data Turn : Type 0 where
   waits : Turn
   goes : Part → List ℕ → ℕ → Turn
@@ -36,7 +38,8 @@ part_after size = if size == 0 then Trailer (record { sought = 0; spot = Fresh }
 -- the part after a chunk line that gives this size, where the chunks so far have so many bytes
 abbrev pub next_part : ℕ → Option ℕ → Result Part WireWhy
 next_part so_far None = Err BadChunk
-next_part so_far (Some size) = if nat_lt max_body (so_far + size) then Err BodyLong else Ok (part_after size)
+next_part so_far (Some size) =
+    if nat_lt max_body (so_far + size) then Err BodyLong else Ok (part_after size)
 
 -- the same as a turn of n bytes
 abbrev pub size_turn : List ℕ → ℕ → ℕ → Result Part WireWhy → Turn
@@ -45,26 +48,33 @@ size_turn body at n (Err why) = fails (fault_at why at)
 
 -- the line has so many bytes
 abbrev pub line_turn : List ℕ → ℕ → List ℕ → Option ℕ → Turn
-line_turn body at rest None = if nat_lt (length rest) max_chunk_line then waits else fails (fault_at BadChunk at)
-line_turn body at rest (Some n) = size_turn body at n (next_part (length body) (size_of (take n rest)))
+line_turn body at rest None =
+    if nat_lt (length rest) max_chunk_line then waits else fails (fault_at BadChunk at)
+line_turn body at rest (Some n) =
+    size_turn body at n (next_part (length body) (size_of (take n rest)))
 
 -- the trailer ends after so many bytes
 abbrev pub trailer_turn : List ℕ → ℕ → List ℕ → Option ℕ → Turn
-trailer_turn body at rest None = if nat_lt (length rest) max_trailer then waits else fails (fault_at BadChunk at)
+trailer_turn body at rest None =
+    if nat_lt (length rest) max_trailer then waits else fails (fault_at BadChunk at)
 trailer_turn body at rest (Some n) = ends body n
 
 -- CR LF stands at the front
 abbrev pub has_line_end : List ℕ → Bool
 has_line_end rest = bytes_eq (take 2 rest) (13 ∷ 10 ∷ [])
 
--- what a part comes to, where the body so far is this, its first byte has this place, and these bytes were fed
+-- what a part comes to, where the body so far is this, its first byte has this place, and these
+-- bytes were fed
 abbrev pub turn : Part → List ℕ → ℕ → List ℕ → Turn
-turn (Length n) body at rest = if nat_lt (length rest) n then waits else ends (body ++ take n rest) n
+turn (Length n) body at rest =
+    if nat_lt (length rest) n then waits else ends (body ++ take n rest) n
 turn (Line sought) body at rest = line_turn body at rest (first_line (take max_chunk_line rest))
 turn (Data n) body at rest =
     if nat_lt (length rest) (n + 2) then waits
-    else (if has_line_end (drop n rest) then goes (Line 0) (body ++ take n rest) (n + 2) else fails (fault_at BadChunk (at + n)))
-turn (Trailer search) body at rest = trailer_turn body at rest (first_empty_line Fresh (take max_trailer rest))
+    else (if has_line_end (drop n rest) then goes (Line 0) (body ++ take n rest) (n + 2)
+    else fails (fault_at BadChunk (at + n)))
+turn (Trailer search) body at rest =
+    trailer_turn body at rest (first_empty_line Fresh (take max_trailer rest))
 
 -- what comes of a turn, where go says what comes of the parts after it
 abbrev pub after_turn : (Part → List ℕ → ℕ → Body) → ℕ → Turn → Body
@@ -77,7 +87,8 @@ after_turn go at (fails fault) = spoiled fault
 abbrev pub parts : ℕ → Part → List ℕ → ℕ → List ℕ → Body
 parts zero part body at rest = unended
 parts (suc fuel) part body at rest =
-    after_turn (λ next more n. parts fuel next more (at + n) (drop n rest)) at (turn part body at rest)
+    after_turn (λ next more n. parts fuel next more (at + n) (drop n rest)) at
+    (turn part body at rest)
 
 -- the same: each part but the last takes a byte at least
 unfoldable pub body_from : Part → List ℕ → ℕ → List ℕ → Body

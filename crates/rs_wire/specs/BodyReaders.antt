@@ -36,14 +36,16 @@ reader_body r at rest = body_from r.part r.body.items at rest
 -- the reader took n bytes and comes to the same, whatever follows
 pub record Moves (old new : BodyReader) (at n : ℕ) (rest : List ℕ) : Type 0 where
   pub within : n ≤ length rest
-  pub same : (more : List ℕ) → reader_body old at (rest ++ more) ≡ reader_body new (at + n) (drop n rest ++ more)
+  pub same : (more : List ℕ)
+      → reader_body old at (rest ++ more) ≡ reader_body new (at + n) (drop n rest ++ more)
   pub fits : IsPartAt new.part (drop n rest)
 
 -- what each answer says
 abbrev pub IsMove : BodyReader → BodyReader → ℕ → List ℕ → Move → Type 0
 IsMove old new at rest (move.Wait n) = Moves old new at n rest × (reader_body old at rest ≡ unended)
 IsMove old new at rest (move.On n) = Moves old new at n rest × (0 < n)
-IsMove old new at rest (move.End n) = (n ≤ length rest) × (reader_body old at rest ≡ ended new.body.items (at + n))
+IsMove old new at rest (move.End n) =
+    (n ≤ length rest) × (reader_body old at rest ≡ ended new.body.items (at + n))
 IsMove old new at rest (move.Fault fault) = reader_body old at rest ≡ spoiled fault
 
 -- a move takes bytes that there are, and goes on only after some

@@ -1,4 +1,5 @@
--- The line before a chunk as a text: httparse's grammar as a function, as `proofs/ChunkLemmas.antt` shows.
+-- The line before a chunk as a text: httparse's grammar as a function, as `proofs/ChunkLemmas.antt`
+-- shows.
 use Rattle.std.specs.Prelude.{ℕ, Bool, true, not, ◌&&◌, ◌==◌, nat_lt, nat_le, if◌then◌else◌, List, [], ◌∷◌, length, drop, Option, Some, None, option_map, bytes_eq}
 use Rattle.std.specs.List.{list_all}
 use Rattle.std.specs.Char.{is_ascii_hexdigit}
@@ -29,12 +30,15 @@ is_extension (Some text) = list_all is_extension_byte text
 -- each part is of its class
 abbrev pub is_chunk_line : ChunkLine → Bool
 is_chunk_line l =
-    (nat_lt 0 (length l.digits) && (nat_le (length l.digits) 16 && list_all is_ascii_hexdigit l.digits))
+    (nat_lt 0 (length l.digits)
+    && (nat_le (length l.digits) 16 && list_all is_ascii_hexdigit l.digits))
     && (list_all is_ows l.pad && is_extension l.extension)
 
 -- the chunk line that the whole text is, if its parts are one and print to it
 unfoldable pub chunk_line : List ℕ → Option ChunkLine
-chunk_line text = let l = chunk_in text in if is_chunk_line l && bytes_eq (print_chunk_line l) text then Some l else None
+chunk_line text =
+    let l = chunk_in text in
+    if is_chunk_line l && bytes_eq (print_chunk_line l) text then Some l else None
 
 -- the size that a chunk line gives
 unfoldable pub size_of : List ℕ → Option ℕ

@@ -16,12 +16,15 @@ message_by (begun b (spoiled f)) = None
 unfoldable pub message_at : ℕ → List ℕ → Option (RequestMessage × ℕ)
 message_at place bytes = message_by (request_reading place bytes)
 
--- the bytes from a place on are these messages, one after another, and then the rest from its place on
+-- the bytes from a place on are these messages, one after another, and then the rest from its place
+-- on
 abbrev pub Divides : ℕ → List ℕ → List RequestMessage → ℕ → List ℕ → Type 0
 Divides place bytes [] end rest = (end ≡ place) × (rest ≡ bytes)
 Divides place bytes (m ∷ ms) end rest =
-    (next : ℕ) × (message_at place bytes ≡ Some (m, next)) × Divides next (drop (next - place) bytes) ms end rest
+    (next : ℕ) × (message_at place bytes ≡ Some (m, next))
+    × Divides next (drop (next - place) bytes) ms end rest
 
 -- what a reader was fed once a message that ends before this place was given
 abbrev pub fed_next : Fed → ℕ → Fed
-fed_next fed next = record { place = next; bytes = drop (next - fed.place) fed.bytes; told = false; fault = None }
+fed_next fed next =
+    record { place = next; bytes = drop (next - fed.place) fed.bytes; told = false; fault = None }

@@ -9,7 +9,8 @@ use Rattle.rs_wire.specs.declared.fault.WireWhy.{WireWhy}
 use Rattle.rs_wire.specs.declared.fault.WireWhy.TheVariants.{BadHead, TargetLong, BodyLong, BadLength, TwoLengths, Coding}
 use Rattle.rs_wire.specs.declared.framing.Framing.{Framing}
 use Rattle.rs_wire.specs.declared.framing.Framing.TheVariants.{Unstated, Length, Chunked}
-use Rattle.rs_wire.specs.Limits.{max_body, max_length_digits, max_target}
+use Rattle.rs_path.specs.Limits.{max_body}
+use Rattle.rs_wire.specs.Limits.{max_length_digits, max_target}
 use Rattle.rs_wire.specs.Names.{is_field_named, says}
 use Rattle.rs_wire.specs.Items.{lists}
 
@@ -21,11 +22,14 @@ is_length_field f = is_field_named (codes "content-length") f
 
 -- a length is digits, one at least and max_length_digits at most
 unfoldable pub is_length : List ℕ → Bool
-is_length text = nat_lt 0 (length text) && (nat_le (length text) max_length_digits && list_all is_ascii_digit text)
+is_length text = nat_lt 0 (length text)
+    && (nat_le (length text) max_length_digits && list_all is_ascii_digit text)
 
--- two texts of Content-Length are the same: as numbers where both are lengths, and as texts otherwise
+-- two texts of Content-Length are the same: as numbers where both are lengths, and as texts
+-- otherwise
 unfoldable pub same_length : List ℕ → List ℕ → Bool
-same_length a b = if is_length a && is_length b then digits_value 10 a == digits_value 10 b else bytes_eq a b
+same_length a b =
+    if is_length a && is_length b then digits_value 10 a == digits_value 10 b else bytes_eq a b
 
 -- the field is a Content-Length of another text
 abbrev pub differs_from : Field → Field → Bool
@@ -33,7 +37,8 @@ differs_from f g = is_length_field g && not (same_length f.value g.value)
 
 -- a Content-Length after the first is another one
 unfoldable pub has_two_lengths : List Field → Bool
-has_two_lengths fields = option_map_or (λ f. list_any (differs_from f) fields) (find is_length_field fields) false
+has_two_lengths fields =
+    option_map_or (λ f. list_any (differs_from f) fields) (find is_length_field fields) false
 
 -- a Content-Length isn't a length
 unfoldable pub has_bad_length : List Field → Bool
@@ -46,13 +51,18 @@ length_framing o = option_map_or (λ f. Length (digits_value 10 f.value)) o Unst
 -- there is one Transfer-Encoding, and it is `chunked`
 unfoldable pub is_chunked : List Field → Bool
 is_chunked fields =
-    (count_by is_coding fields == 1) && list_any (says (codes "transfer-encoding") (codes "chunked")) fields
+    (count_by is_coding fields == 1)
+    && list_any (says (codes "transfer-encoding") (codes "chunked")) fields
 
 -- what the fields state, or what is wrong with it
 unfoldable pub stated : List Field → Result Framing WireWhy
 stated fields =
-    if list_any is_coding fields then (if is_chunked fields then (if list_any is_length_field fields then Err TwoLengths else Ok Chunked) else Err Coding)
-    else (if has_two_lengths fields then Err TwoLengths else (if has_bad_length fields then Err BadLength else Ok (length_framing (find is_length_field fields))))
+    if list_any is_coding fields then (if is_chunked fields
+    then (if list_any is_length_field fields then Err TwoLengths else Ok Chunked)
+    else Err Coding)
+    else (if has_two_lengths fields then Err TwoLengths
+    else (if has_bad_length fields then Err BadLength
+    else Ok (length_framing (find is_length_field fields))))
 
 -- a request whose fields state nothing has no body, and a body has a limit
 abbrev pub framed : Result Framing WireWhy → Result Framing WireWhy
@@ -85,7 +95,8 @@ has_body (Length n) = nat_lt 0 n
 -- the sender waits for the interim reply before it sends the body
 unfoldable pub expects_interim : ℕ → List Field → Framing → Bool
 expects_interim minor fields framing =
-    (minor == 1) && (has_body framing && list_any (says (codes "expect") (codes "100-continue")) fields)
+    (minor == 1)
+    && (has_body framing && list_any (says (codes "expect") (codes "100-continue")) fields)
 
 -- a Connection that lists `close`
 abbrev pub says_close : Field → Bool

@@ -1,4 +1,5 @@
--- The limits of messages, in bytes where nothing else is said (own).
+-- The limits of messages, in bytes where nothing else is said (own). A request's body has max_body
+-- bytes at most (`rs_path`).
 use Rattle.std.specs.Prelude.{ℕ}
 
 -- the head of a request or of a reply, with the line ends that were dropped before it
@@ -13,10 +14,6 @@ max_fields = 128
 abbrev pub max_target : ℕ
 max_target = 8192
 
--- the body of a request
-abbrev pub max_body : ℕ
-max_body = 67108864
-
 -- the digits of a Content-Length, counted
 abbrev pub max_length_digits : ℕ
 max_length_digits = 18
@@ -29,7 +26,7 @@ max_chunk_line = 256
 abbrev pub max_trailer : ℕ
 max_trailer = 16384
 
--- a request that isn't whole yet has fewer bytes: a head, and a body in chunks of one byte each behind the longest lines, up
--- to the end of its trailer
+-- a request that isn't whole yet has fewer bytes: a head, and a body in chunks of one byte each
+-- behind the longest lines, up to the end of its trailer
 abbrev pub max_message : ℕ
 max_message = 17381228800

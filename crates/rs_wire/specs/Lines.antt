@@ -13,7 +13,8 @@ abbrev pub past_breaks : List ℕ → List ℕ
 past_breaks [] = []
 past_breaks (b ∷ bytes) = if is_break b then past_breaks bytes else b ∷ bytes
 
--- the spot after a byte, or none where the byte ends an empty line: an LF at a line's start, or after a CR there
+-- the spot after a byte, or none where the byte ends an empty line: an LF at a line's start, or
+-- after a CR there
 abbrev pub next_spot : Spot → ℕ → Option Spot
 next_spot Before b = if is_break b then Some Before else Some Within
 next_spot Within b = if b == 10 then Some Fresh else Some Within
@@ -24,7 +25,8 @@ next_spot Turned b = if b == 10 then None else Some Within
 abbrev pub first_empty_line : Spot → List ℕ → Option ℕ
 first_empty_line spot [] = None
 first_empty_line spot (b ∷ bytes) =
-    option_map_or (λ next. option_map (λ n. n + 1) (first_empty_line next bytes)) (next_spot spot b) (Some 1)
+    option_map_or (λ next. option_map (λ n. n + 1) (first_empty_line next bytes))
+    (next_spot spot b) (Some 1)
 
 -- the spot after all the bytes, where they have no empty line
 abbrev pub spot_after : Spot → List ℕ → Option Spot

@@ -31,7 +31,9 @@ pub record StandsInBody (opened : Opened) (taken : ℕ) (left : List ℕ) (fed :
   pub ahead : fed.place ≤ taken
   pub rest : left ≡ drop (taken - fed.place) fed.bytes
   pub some : list_all is_break fed.bytes ≡ false
-  pub same : (more : List ℕ) → request_reading fed.place (fed.bytes ++ more) ≡ begun opened.begun (reader_body opened.reader taken (left ++ more))
+  pub same : (more : List ℕ)
+      → request_reading fed.place (fed.bytes ++ more)
+      ≡ begun opened.begun (reader_body opened.reader taken (left ++ more))
   pub fits : IsPartAt opened.reader.part left
 
 abbrev pub StandsAt : Stage → ℕ → List ℕ → Fed → Type 0
@@ -55,13 +57,17 @@ fed_count r = r.taken + length r.buffer
 
 -- what `next` leaves and returns: what is due, or nothing for want of memory
 abbrev pub Nexts : Fed → RequestReader → Result Step NextFault → Type 0
-Nexts fed new (Ok step) = (step_of (next_of fed) ≡ Ok step) × Stands new (fed_after fed (next_of fed))
-Nexts fed new (Err (Wire f)) = (step_of (next_of fed) ≡ Err (Wire f)) × Stands new (fed_after fed (next_of fed))
+Nexts fed new (Ok step) =
+    (step_of (next_of fed) ≡ Ok step) × Stands new (fed_after fed (next_of fed))
+Nexts fed new (Err (Wire f)) =
+    (step_of (next_of fed) ≡ Err (Wire f)) × Stands new (fed_after fed (next_of fed))
 Nexts fed new (Err NoMemory) = Stands new fed
 
 -- the same of one turn, which may only have come closer
 abbrev pub IsReaderTurn : Fed → RequestReader → Result (Option Step) NextFault → Type 0
 IsReaderTurn fed new (Ok None) = Stands new fed
-IsReaderTurn fed new (Ok (Some step)) = (step_of (next_of fed) ≡ Ok step) × Stands new (fed_after fed (next_of fed))
-IsReaderTurn fed new (Err (Wire f)) = (step_of (next_of fed) ≡ Err (Wire f)) × Stands new (fed_after fed (next_of fed))
+IsReaderTurn fed new (Ok (Some step)) =
+    (step_of (next_of fed) ≡ Ok step) × Stands new (fed_after fed (next_of fed))
+IsReaderTurn fed new (Err (Wire f)) =
+    (step_of (next_of fed) ≡ Err (Wire f)) × Stands new (fed_after fed (next_of fed))
 IsReaderTurn fed new (Err NoMemory) = Stands new fed

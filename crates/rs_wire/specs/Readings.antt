@@ -1,4 +1,5 @@
--- What a stream of requests holds after one message and before the next, as a function of its bytes.
+-- What a stream of requests holds after one message and before the next, as a function of its
+-- bytes.
 use Rattle.std.specs.Prelude.{ℕ, ◌+◌, ◌-◌, ◌++◌, Bool, true, false, not, ◌&&◌, if◌then◌else◌, List, [], length, drop, Option, Some, None, Result, Ok, Err}
 use Rattle.std.specs.List.{list_all}
 use Rattle.rs_wire.specs.declared.fault.WireFault.{WireFault}
@@ -14,7 +15,8 @@ use Rattle.rs_wire.specs.Lines.{is_break}
 use Rattle.rs_wire.specs.RequestHeads.{head_at}
 use Rattle.rs_wire.specs.Bodies.{Body, unended, ended, spoiled, fault_at, first_part, body_from}
 
--- what bytes after a message hold: no whole head, a head that is refused, or a head and what comes of its body
+-- what bytes after a message hold: no whole head, a head that is refused, or a head and what comes
+-- of its body
 pub data Reading : Type 0 where
   unread : Reading
   refused : WireFault → Reading
@@ -23,14 +25,15 @@ pub data Reading : Type 0 where
 abbrev pub reading_by : ℕ → List ℕ → Option (Result (Begun × ℕ) WireWhy) → Reading
 reading_by place bytes None = unread
 reading_by place bytes (Some (Err why)) = refused (fault_at why place)
-reading_by place bytes (Some (Ok h)) = begun h.0 (body_from (first_part h.0.framing) [] (place + h.1) (drop h.1 bytes))
+reading_by place bytes (Some (Ok h)) =
+    begun h.0 (body_from (first_part h.0.framing) [] (place + h.1) (drop h.1 bytes))
 
 -- the same for the bytes from this place in the stream on
 unfoldable pub request_reading : ℕ → List ℕ → Reading
 request_reading place bytes = reading_by place bytes (head_at place bytes)
 
--- what a reader was fed: the place of the first byte after the last message, the bytes from there on, whether the interim
--- reply to them was asked for already, and the fault that was answered
+-- what a reader was fed: the place of the first byte after the last message, the bytes from there
+-- on, whether the interim reply to them was asked for already, and the fault that was answered
 pub record Fed : Type 0 where
   pub place : ℕ
   pub bytes : List ℕ
@@ -79,7 +82,8 @@ step_of (fault f) = Err (Wire f)
 abbrev pub fed_after : Fed → Answer → Fed
 fed_after fed more = fed
 fed_after fed interim = record fed { told = true }
-fed_after fed (message m end) = record { place = end; bytes = drop (end - fed.place) fed.bytes; told = false; fault = None }
+fed_after fed (message m end) =
+    record { place = end; bytes = drop (end - fed.place) fed.bytes; told = false; fault = None }
 fed_after fed (fault f) = record fed { fault = Some f }
 
 -- what a piece adds

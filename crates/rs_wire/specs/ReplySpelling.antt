@@ -1,4 +1,5 @@
--- How a reply is spelled: heads of interim replies, a head, and then the body by its framing (RFC 9112).
+-- How a reply is spelled: heads of interim replies, a head, and then the body by its framing (RFC
+-- 9112).
 use Rattle.std.specs.Prelude.{◌≡◌, ◌≢◌, ℕ, ◌/◌, ◌<◌, ◌≤◌, Bool, true, List, [], ◌∷◌, ◌++◌, length, Some, Ok}
 use Rattle.std.specs.List.{list_all}
 use Rattle.httparse.specs.Grammar.{ResponseHead, IsResponseHead, print_response, status_code}
@@ -28,16 +29,21 @@ pub record SpellsHead (h : ResponseHead) (text : List ℕ) : Type 0 where
 -- heads of a status from 100 to 199, one after another
 pub data Interims : List ℕ → Type 0 where
   none : Interims []
-  skipped : {bytes : List ℕ} (h : ResponseHead) (text rest : List ℕ) → SpellsHead h text → status_code h / 100 ≡ 1 → Interims rest
+  skipped : {bytes : List ℕ} (h : ResponseHead) (text rest : List ℕ) → SpellsHead h text
+      → status_code h / 100 ≡ 1 → Interims rest
       → bytes ≡ text ++ rest → Interims bytes
 
 -- chunks, the last of size 0, and a trailer
 pub data ReplyChunks : List ℕ → List ℕ → Type 0 where
-  chunk : {body bytes : List ℕ} (line content later rest : List ℕ) → IsLine line → length line ≤ max_chunk_line
-      → size_of line ≡ Some (length content) → 0 < length content → ReplyChunks later rest → body ≡ content ++ later
+  chunk : {body bytes : List ℕ} (line content later rest : List ℕ) → IsLine line
+      → length line ≤ max_chunk_line
+      → size_of line ≡ Some (length content) → 0 < length content → ReplyChunks later rest
+      → body ≡ content ++ later
       → bytes ≡ line ++ (content ++ (13 ∷ 10 ∷ rest)) → ReplyChunks body bytes
-  last : {bytes : List ℕ} (line trailer : List ℕ) → IsLine line → length line ≤ max_chunk_line → size_of line ≡ Some 0
-      → first_empty_line Fresh trailer ≡ Some (length trailer) → length trailer ≤ max_trailer → bytes ≡ line ++ trailer → ReplyChunks [] bytes
+  last : {bytes : List ℕ} (line trailer : List ℕ) → IsLine line → length line ≤ max_chunk_line
+      → size_of line ≡ Some 0
+      → first_empty_line Fresh trailer ≡ Some (length trailer) → length trailer ≤ max_trailer
+      → bytes ≡ line ++ trailer → ReplyChunks [] bytes
 
 -- a body by its framing
 abbrev pub SpellsReplyBody : Framing → List ℕ → List ℕ → Type 0
@@ -56,6 +62,7 @@ pub record SpellsReply (bodiless : Bool) (m : ReplyMessage) (bytes : List ℕ) :
   pub spells : SpellsHead head text
   pub final : status_code head / 100 ≢ 1
   pub states : stated (fields_of head.fields) ≡ Ok framing
-  pub body : SpellsReplyBody (reply_framing (has_no_body bodiless (status_code head)) framing) m.body tail
+  pub body : SpellsReplyBody (reply_framing (has_no_body bodiless (status_code head)) framing)
+      m.body tail
   pub whole : bytes ≡ interims ++ (text ++ tail)
   pub same : m ≡ record { status = status_code head; fields = fields_of head.fields; body = m.body }

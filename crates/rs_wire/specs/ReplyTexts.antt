@@ -1,5 +1,5 @@
--- The head of a reply as a text: httparse's grammar as a function. `proofs/ReplyLemmas.antt` shows that it is that grammar,
--- for a text that begins with no line end.
+-- The head of a reply as a text: httparse's grammar as a function. `proofs/ReplyLemmas.antt` shows
+-- that it is that grammar, for a text that begins with no line end.
 use Rattle.std.specs.Prelude.{ℕ, ◌-◌, Bool, ◌&&◌, ◌==◌, if◌then◌else◌, List, [], ◌∷◌, length, take, drop, slice_index, nat_le, Option, Some, None, bytes_eq}
 use Rattle.std.specs.List.{list_all}
 use Rattle.std.specs.Char.{is_ascii_digit}

@@ -45,27 +45,32 @@ begun_at place method target minor fields framing = record {
 }
 
 -- the same where the head has a framing
-abbrev pub begun_by : ℕ → List ℕ → List ℕ → ℕ → List Field → Result Framing WireWhy → Result Begun WireWhy
-begun_by place method target minor fields (Ok framing) = Ok (begun_at place method target minor fields framing)
+abbrev pub begun_by : ℕ → List ℕ → List ℕ → ℕ → List Field → Result Framing WireWhy
+    → Result Begun WireWhy
+begun_by place method target minor fields (Ok framing) =
+    Ok (begun_at place method target minor fields framing)
 begun_by place method target minor fields (Err why) = Err why
 
 -- the first fault of a head, or the request that begins with it
 unfoldable pub judged_head : ℕ → RequestHead → Result Begun WireWhy
 judged_head place h =
     if nat_lt max_fields (length h.fields) then Err HeadLong
-    else (let fields = fields_of h.fields in begun_by place h.method h.target h.minor fields (head_framing h.minor (length h.target) fields))
+    else (let fields = fields_of h.fields in
+    let framing = head_framing h.minor (length h.target) fields in
+    begun_by place h.method h.target h.minor fields framing)
 
 -- the same of a text
 unfoldable pub judged_request : ℕ → List ℕ → Result Begun WireWhy
 judged_request place text = option_map_or (judged_head place) (request_head text) (Err BadHead)
 
 -- the spans are those of the head that the whole text is
-pub record IsRequestIn (text : List ℕ) (room : List HeaderSpan) (spans : RequestSpans) : Type 0 where
-  pub head : RequestHead
-  pub is : request_head text ≡ Some head
-  pub at : IsRequestAt text room spans head
-  pub within : IsRequestWithin text room spans
-  pub whole : spans.len ≡ length text
+pub record IsRequestIn (text : List ℕ) (room : List HeaderSpan) (spans : RequestSpans) : Type 0
+  where
+    pub head : RequestHead
+    pub is : request_head text ≡ Some head
+    pub at : IsRequestAt text room spans head
+    pub within : IsRequestWithin text room spans
+    pub whole : spans.len ≡ length text
 
 -- why a head that has no end within its limit is refused: its first line, or the whole
 abbrev pub long_head : List ℕ → WireWhy
@@ -76,11 +81,13 @@ abbrev pub with_length : ℕ → Result Begun WireWhy → Result (Begun × ℕ) 
 with_length n (Ok b) = Ok (b, n)
 with_length n (Err why) = Err why
 
--- what bytes hold of a head, where their first max_head have this first empty line: nothing yet, a fault or a head
+-- what bytes hold of a head, where their first max_head have this first empty line: nothing yet, a
+-- fault or a head
 abbrev pub head_ending : ℕ → List ℕ → Option ℕ → Option (Result (Begun × ℕ) WireWhy)
 head_ending place bytes None =
     if nat_lt (length bytes) max_head then None else Some (Err (long_head (take max_head bytes)))
-head_ending place bytes (Some n) = Some (with_length n (judged_request place (past_breaks (take n bytes))))
+head_ending place bytes (Some n) =
+    Some (with_length n (judged_request place (past_breaks (take n bytes))))
 
 -- what bytes hold of a head that begins at this place in the stream
 unfoldable pub head_at : ℕ → List ℕ → Option (Result (Begun × ℕ) WireWhy)

@@ -1,5 +1,6 @@
--- The head of a request as a text: httparse's grammar as a function. `Head reading` of `proofs/RequestLemmas.antt` shows
--- that it is that grammar, for a text that begins with no line end.
+-- The head of a request as a text: httparse's grammar as a function. `Head reading` of
+-- `proofs/RequestLemmas.antt` shows that it is that grammar, for a text that begins with no line
+-- end.
 use Rattle.std.specs.Prelude.{ℕ, ◌-◌, Bool, ◌&&◌, if◌then◌else◌, List, [], ◌∷◌, length, slice_index, nat_lt, nat_le, Option, Some, None, bytes_eq}
 use Rattle.std.specs.Str.{is_utf8}
 use Rattle.std.specs.List.{list_all}

@@ -3,7 +3,8 @@ use Rattle.std.specs.Prelude.{ℕ, zero, suc}
 use Rattle.std.specs.declared.ops.ControlFlow.{ControlFlow}
 use Rattle.std.specs.declared.ops.ControlFlow.TheVariants.{Continue, Break}
 
--- what comes of a step, which breaks with an answer or continues from a state, where go says what comes of the state
+-- what comes of a step, which breaks with an answer or continues from a state, where go says what
+-- comes of the state
 abbrev pub after_flow : {A S : Type 0} → (S → A) → ControlFlow A S → A
 after_flow go (Break a) = a
 after_flow go (Continue s) = go s

@@ -7,7 +7,8 @@ use Rattle.rs_wire.specs.declared.framing.Framing.TheVariants.{Unstated, Length,
 use Rattle.rs_wire.specs.declared.head.Begun.{Begun}
 use Rattle.rs_wire.specs.declared.message.RequestMessage.{RequestMessage}
 use Rattle.rs_wire.specs.declared.search.Spot.TheVariants.{Before, Fresh}
-use Rattle.rs_wire.specs.Limits.{max_head, max_body, max_chunk_line, max_trailer}
+use Rattle.rs_path.specs.Limits.{max_body}
+use Rattle.rs_wire.specs.Limits.{max_head, max_chunk_line, max_trailer}
 use Rattle.rs_wire.specs.Lines.{is_break, first_line, first_empty_line}
 use Rattle.rs_wire.specs.ChunkTexts.{size_of}
 use Rattle.rs_wire.specs.RequestHeads.{judged_head}
@@ -19,12 +20,17 @@ IsLine text = first_line text ≡ Some (length text)
 
 -- chunks, the last of size 0, and a trailer, where the chunks before have so many bytes
 pub data Chunks : ℕ → List ℕ → List ℕ → Type 0 where
-  chunk : {so_far : ℕ} {body bytes : List ℕ} (line content later rest : List ℕ) → IsLine line → length line ≤ max_chunk_line
-      → size_of line ≡ Some (length content) → 0 < length content → so_far + length content ≤ max_body
-      → Chunks (so_far + length content) later rest → body ≡ content ++ later → bytes ≡ line ++ (content ++ (13 ∷ 10 ∷ rest))
+  chunk : {so_far : ℕ} {body bytes : List ℕ} (line content later rest : List ℕ) → IsLine line
+      → length line ≤ max_chunk_line
+      → size_of line ≡ Some (length content) → 0 < length content
+      → so_far + length content ≤ max_body
+      → Chunks (so_far + length content) later rest → body ≡ content ++ later
+      → bytes ≡ line ++ (content ++ (13 ∷ 10 ∷ rest))
       → Chunks so_far body bytes
-  last : {so_far : ℕ} {bytes : List ℕ} (line trailer : List ℕ) → IsLine line → length line ≤ max_chunk_line → size_of line ≡ Some 0 → so_far ≤ max_body
-      → first_empty_line Fresh trailer ≡ Some (length trailer) → length trailer ≤ max_trailer → bytes ≡ line ++ trailer
+  last : {so_far : ℕ} {bytes : List ℕ} (line trailer : List ℕ) → IsLine line
+      → length line ≤ max_chunk_line → size_of line ≡ Some 0 → so_far ≤ max_body
+      → first_empty_line Fresh trailer ≡ Some (length trailer) → length trailer ≤ max_trailer
+      → bytes ≡ line ++ trailer
       → Chunks so_far [] bytes
 
 -- a body by its framing
@@ -42,7 +48,8 @@ pub record SpellsRequest (place : ℕ) (m : RequestMessage) (bytes : List ℕ) :
   pub dropped : list_all is_break breaks ≡ true
   pub valid : IsRequestHead head
   pub first : head.blank ≡ []
-  pub ends : first_empty_line Before (breaks ++ print_request head) ≡ Some (length (breaks ++ print_request head))
+  pub ends : first_empty_line Before (breaks ++ print_request head)
+      ≡ Some (length (breaks ++ print_request head))
   pub short : length (breaks ++ print_request head) ≤ max_head
   pub judged : judged_head place head ≡ Ok begun
   pub whole : bytes ≡ (breaks ++ print_request head) ++ tail

@@ -21,7 +21,8 @@ fields_text fields = flat_map field_text fields ++ (13 ∷ 10 ∷ [])
 
 -- method SP target SP "HTTP/1.1" CR LF fields
 abbrev pub request_head_text : RequestMessage → List ℕ
-request_head_text m = m.method ++ (32 ∷ (m.target ++ (codes " HTTP/1.1" ++ (13 ∷ 10 ∷ fields_text m.fields))))
+request_head_text m =
+    m.method ++ (32 ∷ (m.target ++ (codes " HTTP/1.1" ++ (13 ∷ 10 ∷ fields_text m.fields))))
 
 -- the bytes of a request, in version 1.1
 abbrev pub request_text : RequestMessage → List ℕ
@@ -43,8 +44,8 @@ head_for m = record {
   last = crlf;
 }
 
--- the request has a spelling that is its written one: version 1.1, a body as long as its Content-Length says or none, and no
--- Transfer-Encoding
+-- the request has a spelling that is its written one: version 1.1, a body as long as its
+-- Content-Length says or none, and no Transfer-Encoding
 pub record IsWritable (m : RequestMessage) : Type 0 where
   pub minor : m.minor ≡ 1
   pub head : IsRequestHead (head_for m)
@@ -86,7 +87,8 @@ status_digits status = (48 + status / 100 % 10) ∷ (48 + status / 10 % 10) ∷ 
 
 -- "HTTP/1.1" SP status SP phrase CR LF fields
 abbrev pub reply_head_text : ReplyMessage → List ℕ
-reply_head_text m = codes "HTTP/1.1 " ++ (status_digits m.status ++ (32 ∷ (phrase_of m.status ++ (13 ∷ 10 ∷ fields_text m.fields))))
+reply_head_text m = codes "HTTP/1.1 "
+    ++ (status_digits m.status ++ (32 ∷ (phrase_of m.status ++ (13 ∷ 10 ∷ fields_text m.fields))))
 
 -- the bytes of a reply
 abbrev pub reply_text : ReplyMessage → List ℕ
@@ -103,7 +105,8 @@ IsReplyBody (Ok (Length n)) body = n ≡ length body
 IsReplyBody (Ok Chunked) body = ⊥
 IsReplyBody (Err why) body = ⊥
 
--- the reply has a spelling that is its written one: a status with a phrase, and no Transfer-Encoding
+-- the reply has a spelling that is its written one: a status with a phrase, and no
+-- Transfer-Encoding
 pub record IsWritableReply (bodiless : Bool) (m : ReplyMessage) : Type 0 where
   pub phrase : 0 < length (phrase_of m.status)
   pub valid : All IsField (map line_for m.fields)

@@ -11,9 +11,9 @@ ghost use Rattle.rs_wire.specs.Sought.{IsSought};
 use crate::chunk::size_of;
 use crate::fault::{WireFault, WireWhy};
 use crate::framing::Framing;
-use crate::limits::{MAX_BODY, MAX_CHUNK_LINE, MAX_TRAILER};
+use crate::limits::{MAX_CHUNK_LINE, MAX_TRAILER};
 use crate::search::{Search, Spot, window};
-use rs_path::NoMemory;
+use rs_path::{MAX_BODY, NoMemory};
 use std::alloc::Global;
 
 /// The part of a body that comes next.
@@ -159,7 +159,8 @@ impl BodyReader {
     fn data_part(&mut self, left: u64, rest: &[u8], at: u64) -> Result<Move, NoMemory>
         requires { self.old.part ≡ Part.Data left }
         ensures within { IfOk result (IsMoveWithin rest.now) }
-        ensures ok { at + length rest.now < 2 ^ 64 → IfOk result (IsMove self.old self.new at rest.now) }
+        ensures ok { at + length rest.now < 2 ^ 64
+            → IfOk result (IsMove self.old self.new at rest.now) }
         ensures err { OnErr result (IsSameBody self.old self.new) }
     {
         let count = at_most(left, rest);

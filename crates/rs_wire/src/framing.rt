@@ -9,8 +9,9 @@ ghost use Rattle.rs_wire.specs.Framing.{is_length, same_length, has_two_lengths,
 use crate::fault::WireWhy;
 use crate::field::Field;
 use crate::item::lists;
-use crate::limits::{MAX_BODY, MAX_LENGTH_DIGITS, MAX_TARGET};
+use crate::limits::{MAX_LENGTH_DIGITS, MAX_TARGET};
 use crate::name::{count_named, first_named, has_named, some_says};
+use rs_path::MAX_BODY;
 
 /// How the end of a body is known.
 #[derive(Clone, Copy, Debug, PartialEq, Eq)]

@@ -204,7 +204,8 @@ fn begin(
 ) -> Result<Begun, NoMemory>
     requires method { IsWithin (length text.now) spans.now.method }
     requires path { IsWithin (length text.now) spans.now.path }
-    ensures { IfOk result (λ b. b ≡ begun_at place (span_bytes text.now spans.now.method) (span_bytes text.now spans.now.path) spans.now.version fields framing) }
+    ensures { IfOk result (λ b. b ≡ begun_at place (span_bytes text.now spans.now.method)
+        (span_bytes text.now spans.now.path) spans.now.version fields framing) }
 {
     let close = ends_connection(spans.version, fields.as_slice());
     let expects = expects_interim(spans.version, fields.as_slice(), framing);

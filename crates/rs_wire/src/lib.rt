@@ -28,8 +28,8 @@ pub use division::one_division;
 pub use fault::{NextFault, ReplyFault, WireFault, WireWhy};
 pub use field::{Field, Fields};
 pub use limits::{
-    MAX_BODY, MAX_CHUNK_LINE, MAX_FIELDS, MAX_HEAD, MAX_LENGTH_DIGITS, MAX_MESSAGE, MAX_TARGET,
-    MAX_TRAILER, limit_laws,
+    MAX_CHUNK_LINE, MAX_FIELDS, MAX_HEAD, MAX_LENGTH_DIGITS, MAX_MESSAGE, MAX_TARGET, MAX_TRAILER,
+    limit_laws,
 };
 pub use message::{ReplyMessage, RequestMessage, Step};
 pub use reader::RequestReader;

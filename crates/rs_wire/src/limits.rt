@@ -1,7 +1,7 @@
-//! The limits of messages, in bytes where nothing else is said.
+//! The limits of messages, in bytes where nothing else is said. The body of a request has `rs_path::MAX_BODY` bytes at most.
 
 ghost use Rattle.std.specs.Prelude.{◌≡◌};
-ghost use Rattle.rs_wire.specs.Limits.{max_head, max_fields, max_target, max_body, max_length_digits, max_chunk_line, max_trailer, max_message};
+ghost use Rattle.rs_wire.specs.Limits.{max_head, max_fields, max_target, max_length_digits, max_chunk_line, max_trailer, max_message};
 
 /// The head of a request or of a reply, with the line ends that were dropped before it.
 pub const MAX_HEAD: usize = 16_384;
@@ -11,9 +11,6 @@ pub const MAX_FIELDS: usize = 128;
 
 /// The target of a request.
 pub const MAX_TARGET: usize = 8_192;
-
-/// The body of a request.
-pub const MAX_BODY: usize = 67_108_864;
 
 /// The digits of a Content-Length, counted.
 pub const MAX_LENGTH_DIGITS: usize = 18;
@@ -33,7 +30,6 @@ pub fn limit_laws()
     ensures head { MAX_HEAD ≡ max_head }
     ensures fields { MAX_FIELDS ≡ max_fields }
     ensures target { MAX_TARGET ≡ max_target }
-    ensures body { MAX_BODY ≡ max_body }
     ensures digits { MAX_LENGTH_DIGITS ≡ max_length_digits }
     ensures chunk_line { MAX_CHUNK_LINE ≡ max_chunk_line }
     ensures trailer { MAX_TRAILER ≡ max_trailer }

@@ -75,7 +75,8 @@ impl RequestReader {
     #[tactic(auto, unfolding(crate::specs::Readers::fed_count))]
     pub fn feed(&mut self, piece: &[u8]) -> Result<(), NoMemory>
         requires { fed_count self.old + length piece.now < 2 ^ 64 }
-        ensures ok { (fed : Fed) → Stands self.old fed → OnOk result (Stands self.new (fed_with fed piece.now)) }
+        ensures ok { (fed : Fed) → Stands self.old fed
+            → OnOk result (Stands self.new (fed_with fed piece.now)) }
         ensures err { (fed : Fed) → Stands self.old fed → OnErr result (Stands self.new fed) }
         ensures count { OnOk result (fed_count self.new ≡ fed_count self.old + length piece.now) }
         ensures same_count { OnErr result (fed_count self.new ≡ fed_count self.old) }
@@ -161,7 +162,8 @@ impl RequestReader {
     #[tactic(auto, unfolding(crate::specs::Readers::fed_count))]
     fn head_turn(&mut self, search: Search) -> Result<Option<Step>, NextFault>
         ensures shorter { result ≡ Ok None → length self.new.buffer < length self.old.buffer }
-        ensures answer { (fed : Fed) → IsFed (Stage.Head search) self.old.taken self.old.buffer fed → IsReaderTurn fed self.new result }
+        ensures answer { (fed : Fed) → IsFed (Stage.Head search) self.old.taken self.old.buffer fed
+            → IsReaderTurn fed self.new result }
         ensures count { fed_count self.old < 2 ^ 64 → fed_count self.new ≡ fed_count self.old }
     {
         let mut search = search;
@@ -191,7 +193,8 @@ impl RequestReader {
     #[tactic(auto, unfolding(crate::specs::Readers::fed_count))]
     fn body_turn(&mut self, opened: Opened) -> Result<Option<Step>, NextFault>
         ensures shorter { result ≡ Ok None → length self.new.buffer < length self.old.buffer }
-        ensures answer { (fed : Fed) → IsFed (Stage.Body opened) self.old.taken self.old.buffer fed → IsReaderTurn fed self.new result }
+        ensures answer { (fed : Fed) → IsFed (Stage.Body opened) self.old.taken self.old.buffer fed
+            → IsReaderTurn fed self.new result }
         ensures count { fed_count self.old < 2 ^ 64 → fed_count self.new ≡ fed_count self.old }
     {
         let mut opened = opened;

@@ -15,7 +15,8 @@ pub fn written_replies()
         → SpellsReply bodiless m (reply_text m) }
     ensures read { (bodiless : Bool) (m : ReplyMessage) → IsReadable bodiless m → m.status ≢ 100
         → reply_of bodiless (reply_text m) ≡ Ok m }
-    ensures skipped { (bodiless : Bool) (interims : List ReplyMessage) (m : ReplyMessage) → All (IsInterim bodiless) interims
+    ensures skipped { (bodiless : Bool) (interims : List ReplyMessage) (m : ReplyMessage)
+        → All (IsInterim bodiless) interims
         → IsReadable bodiless m → m.status ≢ 100
         → reply_of bodiless (flat_map reply_text interims ++ reply_text m) ≡ Ok m }
 {}

@@ -8,5 +8,6 @@ ghost use Rattle.rs_wire.specs.ReplySpelling.{SpellsReply};
 /// What `read_reply` reads as a reply is what spells it: heads of interim replies, which are skipped, a head, the body by its
 /// framing, and no byte more.
 pub fn spelled_replies()
-    ensures { (bodiless : Bool) (m : ReplyMessage) (bytes : List ℕ) → (reply_of bodiless bytes ≡ Ok m) ↔ SpellsReply bodiless m bytes }
+    ensures { (bodiless : Bool) (m : ReplyMessage) (bytes : List ℕ)
+        → (reply_of bodiless bytes ≡ Ok m) ↔ SpellsReply bodiless m bytes }
 {}

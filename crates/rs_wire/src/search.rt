@@ -62,8 +62,10 @@ impl Search {
     /// Goes on with the search: the number of bytes up to and with the first empty line.
     pub(crate) fn seek(&mut self, bytes: &[u8]) -> Option<usize>
         ensures within { IfSome result (λ count. (0 < count) × (count ≤ length bytes.now)) }
-        ensures found { (start : Spot) → IsSought start self.old bytes.now → result ≡ first_empty_line start bytes.now }
-        ensures kept { (start : Spot) → IsSought start self.old bytes.now → IsSought start self.new bytes.now }
+        ensures found { (start : Spot) → IsSought start self.old bytes.now
+            → result ≡ first_empty_line start bytes.now }
+        ensures kept { (start : Spot) → IsSought start self.old bytes.now
+            → IsSought start self.new bytes.now }
     {
         let mut spot = self.spot;
         for i in self.sought..bytes.len() {

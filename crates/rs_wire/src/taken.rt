@@ -17,7 +17,9 @@ pub fn taken_requests()
     ensures all { (ms : List RequestMessage) (place : ℕ) (bytes : List ℕ) (end : ℕ) (rest : List ℕ)
         → Divides place bytes ms end rest ↔ SpellsAll place bytes ms end rest }
     ensures given { (fed : Fed) (m : RequestMessage) → step_of (next_of fed) ≡ Ok (Message m)
-        → (next : ℕ) × BeginsWithRequest fed.place fed.bytes m next × (fed_after fed (next_of fed) ≡ fed_next fed next) }
-    ensures spelled { (fed : Fed) (m : RequestMessage) (next : ℕ) → fed.fault ≡ None → BeginsWithRequest fed.place fed.bytes m next
+        → (next : ℕ) × BeginsWithRequest fed.place fed.bytes m next
+        × (fed_after fed (next_of fed) ≡ fed_next fed next) }
+    ensures spelled { (fed : Fed) (m : RequestMessage) (next : ℕ) → fed.fault ≡ None
+        → BeginsWithRequest fed.place fed.bytes m next
         → next_of fed ≡ (if awaits m && not fed.told then interim else message m next) }
 {}

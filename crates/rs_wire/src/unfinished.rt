@@ -1,7 +1,8 @@
 //! What is known of a request before it is whole, as laws.
 
 ghost use Rattle.std.specs.Prelude.{◌≡◌, ◌≢◌, ◌⊎◌, ◌+◌, ◌<◌, ◌≤◌, ℕ, Bool, List, ◌++◌, length, true, false, Some, Err};
-ghost use Rattle.rs_wire.specs.Limits.{max_body, max_message};
+ghost use Rattle.rs_path.specs.Limits.{max_body};
+ghost use Rattle.rs_wire.specs.Limits.{max_message};
 ghost use Rattle.rs_wire.specs.declared.message.RequestMessage.{RequestMessage};
 ghost use Rattle.rs_wire.specs.declared.fault.WireWhy.TheVariants.{Truncated};
 ghost use Rattle.rs_wire.specs.Bodies.{fault_at};
@@ -14,13 +15,16 @@ ghost use Rattle.rs_wire.specs.Laws.{fed_at};
 /// and where the stream ends after it a message is cut short.
 pub fn unfinished_requests()
     ensures short { (fed : Fed) → next_of fed ≡ more → length fed.bytes < max_message }
-    ensures body { (place : ℕ) (bytes : List ℕ) (m : RequestMessage) (next : ℕ) → message_at place bytes ≡ Some (m, next)
+    ensures body { (place : ℕ) (bytes : List ℕ) (m : RequestMessage) (next : ℕ)
+        → message_at place bytes ≡ Some (m, next)
         → length m.body ≤ max_body }
-    ensures interim_stays { (place : ℕ) (bytes after : List ℕ) → next_of (fed_at place bytes false) ≡ interim
+    ensures interim_stays { (place : ℕ) (bytes after : List ℕ)
+        → next_of (fed_at place bytes false) ≡ interim
         → next_of (fed_at place (bytes ++ after) false) ≡ interim }
     ensures told { (place : ℕ) (bytes : List ℕ) → (next_of (fed_at place bytes false) ≡ interim)
         ⊎ (next_of (fed_at place bytes true) ≡ next_of (fed_at place bytes false)) }
     ensures once { (place : ℕ) (bytes : List ℕ) → next_of (fed_at place bytes true) ≢ interim }
-    ensures begun { (place : ℕ) (bytes : List ℕ) (told : Bool) → next_of (fed_at place bytes false) ≡ interim
+    ensures begun { (place : ℕ) (bytes : List ℕ) (told : Bool)
+        → next_of (fed_at place bytes false) ≡ interim
         → finish_of (fed_at place bytes told) ≡ Err (fault_at Truncated (place + length bytes)) }
 {}

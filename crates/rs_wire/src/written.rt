@@ -15,13 +15,17 @@ ghost use Rattle.rs_wire.specs.Laws.{placed_at, placed_from, fed_at};
 /// back as that request, whatever follows: with the interim reply before it where the request asks for that, and once. Several
 /// that are written one after another are read back one after another.
 pub fn written_requests()
-    ensures spelled { (place : ℕ) (m : RequestMessage) → IsWritable m → SpellsRequest place (placed_at place m) (request_text m) }
+    ensures spelled { (place : ℕ) (m : RequestMessage) → IsWritable m
+        → SpellsRequest place (placed_at place m) (request_text m) }
     ensures read { (place : ℕ) (m : RequestMessage) (after : List ℕ) → IsWritable m
-        → message_at place (request_text m ++ after) ≡ Some (placed_at place m, place + length (request_text m)) }
-    ensures answered { (place : ℕ) (m : RequestMessage) (after : List ℕ) (told : Bool) → IsWritable m
+        → message_at place (request_text m ++ after)
+        ≡ Some (placed_at place m, place + length (request_text m)) }
+    ensures answered { (place : ℕ) (m : RequestMessage) (after : List ℕ) (told : Bool)
+        → IsWritable m
         → next_of (fed_at place (request_text m ++ after) told)
         ≡ (if expects_interim m.minor m.fields (Length (length m.body)) && not told then interim
         else message (placed_at place m) (place + length (request_text m))) }
     ensures stream { (ms : List RequestMessage) (place : ℕ) (after : List ℕ) → All IsWritable ms
-        → Divides place (flat_map request_text ms ++ after) (placed_from place ms) (place + length (flat_map request_text ms)) after }
+        → Divides place (flat_map request_text ms ++ after) (placed_from place ms)
+        (place + length (flat_map request_text ms)) after }
 {}
