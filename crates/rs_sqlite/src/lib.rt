@@ -3,7 +3,5 @@
 
 mod sql_keeper;
 mod statements;
-#[cfg(test)]
-mod tests;
 
 pub use sql_keeper::SqlKeeper;

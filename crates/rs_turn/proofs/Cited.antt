@@ -1,7 +1,7 @@
 -- What upper crates cite: lists that begin with others.
-use Rattle.std.proofs.Common.{◌≡◌, List, ◌++◌, Option, ap, ◌∙◌, append_assoc}
-use Rattle.rs_turn.specs.declared.log_entry.LogEntry.{LogEntry}
-use Rattle.rs_turn.specs.Logs.{StartsWith}
+use Rattle.std.proofs.Common.{List, ◌++◌, Option, ap, ◌∙◌, append_assoc}
+use Rattle.rs_path.specs.declared.log_entry.LogEntry.{LogEntry}
+use Rattle.rs_path.specs.Logs.{StartsWith}
 use Rattle.rs_turn.specs.Origins.{BeginsAsMade}
 
 module _ {A : Type 0} where

@@ -2,9 +2,9 @@
 use Rattle.std.proofs.Common.{◌≡◌, ◌≢◌, ℕ, ◌+◌, cond, eqb, eq-eqb, ne_eqb, List, [], ◌∷◌, ◌++◌, length, Option, Some, None, sym, refl, ap, ◌∙◌, append_assoc, arith, length-append}
 use Rattle.std.proofs.lemmas.List.{append-nil, nil_from_length}
 use Rattle.std.proofs.lemmas.List.Elements.{filter-append}
-use Rattle.rs_turn.specs.declared.log_entry.LogEntry.{LogEntry}
+use Rattle.rs_path.specs.declared.log_entry.LogEntry.{LogEntry}
 use Rattle.rs_turn.specs.Places.{grown_by}
-use Rattle.rs_turn.specs.Logs.{StartsWith, own}
+use Rattle.rs_path.specs.Logs.{StartsWith, own}
 use Rattle.rs_turn.specs.Entries.{entry, extended}
 
 module _ {A : Type 0} where

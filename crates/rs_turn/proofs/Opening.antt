@@ -4,8 +4,8 @@ use mathlib.Core.Option as home
 use mathlib.Core.Option.{some-injective, some-ne-none}
 use lib.ListN.{get_elem?}
 use Rattle.atomic_table.specs.Table.{opening}
-use Rattle.rs_turn.specs.declared.log_entry.LogEntry.{LogEntry}
-use Rattle.rs_turn.specs.Logs.{own}
+use Rattle.rs_path.specs.declared.log_entry.LogEntry.{LogEntry}
+use Rattle.rs_path.specs.Logs.{own}
 use Rattle.rs_turn.proofs.Histories.{begins_itself}
 use Rattle.rs_turn.specs.Rule.{has_drawn, SeatFits, InTurn, LogFits, TurnRule, opened}
 

@@ -6,11 +6,11 @@ use native.Mathlib.Nat.{mod-eq_of_lt}
 use lib.ListN.{get_elem?}
 use Rattle.atomic_table.specs.Table.{State, Me, Allows, Splits, Joins, keeps}
 use Rattle.atomic_table.proofs.Lists.{at_set}
-use Rattle.rs_turn.specs.declared.log_entry.LogEntry.{LogEntry}
+use Rattle.rs_path.specs.declared.log_entry.LogEntry.{LogEntry}
 use Rattle.rs_turn.specs.declared.board.View.{View}
 use Rattle.rs_turn.specs.declared.board.Stage.{Stage}
 use Rattle.rs_turn.specs.declared.board.Stage.TheVariants.{Idle, Waiting, Holding, Looked, Drew}
-use Rattle.rs_turn.specs.Logs.{StartsWith, own}
+use Rattle.rs_path.specs.Logs.{StartsWith, own}
 use Rattle.rs_turn.specs.Rule.{is_queued, is_holding, is_drawing, has_drawn, is_busy, queued, holding, drawing, named, SeatFits, Seats, InTurn, StageFits, Queue, LogFits, Slot, LogPart, TurnRule}
 use Rattle.rs_turn.specs.Limits.{max_seats}
 use Rattle.rs_turn.specs.Plays.{drawn_number, at_stage, having_seen, knowing_made, parted, informed, spent, Sees, Numbers, CountsLog, Adopts}

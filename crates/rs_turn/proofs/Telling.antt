@@ -1,7 +1,7 @@
 -- What a turn tells follows from what its steps told.
 use Rattle.std.proofs.Common.{◌≡◌, ℕ, zero, suc, ◌⊎◌, List, [], ◌∷◌, ◌++◌, Option, Some, None, sym, refl, ap, ◌∙◌, subst, inl, inr}
-use Rattle.rs_turn.specs.declared.log_entry.LogEntry.{LogEntry}
-use Rattle.rs_turn.specs.Logs.{StartsWith, own}
+use Rattle.rs_path.specs.declared.log_entry.LogEntry.{LogEntry}
+use Rattle.rs_path.specs.Logs.{StartsWith, own}
 use Rattle.rs_turn.specs.Entries.{entry, extended}
 use Rattle.rs_turn.specs.Places.{added}
 use Rattle.rs_turn.specs.TookTurn.{TookTurn, Acted}

@@ -8,11 +8,11 @@ use native.Mathlib.Nat.{mod-add-mod, mod-eq_of_lt}
 use lib.ListN.{get_elem?}
 use Rattle.atomic_table.specs.Table.{State, Me, Act, Allows, Valid, stepped, carried_after, put_back, rest, keeps, takes, gives}
 use Rattle.atomic_table.proofs.Lists.{set_again, one_turn}
-use Rattle.rs_turn.specs.declared.log_entry.LogEntry.{LogEntry}
+use Rattle.rs_path.specs.declared.log_entry.LogEntry.{LogEntry}
 use Rattle.rs_turn.specs.declared.board.View.{View}
 use Rattle.rs_turn.specs.declared.board.Stage.{Stage}
 use Rattle.rs_turn.specs.declared.board.Stage.TheVariants.{Idle, Waiting, Holding, Looked, Drew}
-use Rattle.rs_turn.specs.Logs.{StartsWith, own}
+use Rattle.rs_path.specs.Logs.{StartsWith, own}
 use Rattle.rs_turn.specs.Entries.{extended}
 use Rattle.rs_turn.specs.Origins.{BeginsAs}
 use Rattle.rs_turn.specs.Rule.{tally, is_queued, is_holding, is_drawing, has_drawn, is_busy, queued, holding, named, InTurn, StageFits, LogFits, TurnRule}

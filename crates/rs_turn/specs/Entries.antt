@@ -1,6 +1,6 @@
 -- An entry of a seat, and a list with it.
 use Rattle.std.specs.Prelude.{ℕ, List, [], ◌∷◌, ◌++◌, Option, Some, None}
-use Rattle.rs_turn.specs.declared.log_entry.LogEntry.{LogEntry}
+use Rattle.rs_path.specs.declared.log_entry.LogEntry.{LogEntry}
 
 module _ {W : Type 0} where
   abbrev pub entry : ℕ → W → LogEntry W

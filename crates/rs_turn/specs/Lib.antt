@@ -1,4 +1,3 @@
-pub mod Logs
 pub mod Limits
 pub mod Entries
 pub mod Origins

@@ -1,7 +1,7 @@
 -- What later lists and values have of the value that a lock was made with, its origin.
 use Rattle.std.specs.Prelude.{◌≡◌, List, Option, Some}
-use Rattle.rs_turn.specs.declared.log_entry.LogEntry.{LogEntry}
-use Rattle.rs_turn.specs.Logs.{StartsWith}
+use Rattle.rs_path.specs.declared.log_entry.LogEntry.{LogEntry}
+use Rattle.rs_path.specs.Logs.{StartsWith}
 
 module _ {V W : Type 0} (stands : V → List (LogEntry W) → Type 0) where
   -- the list begins with one that the value stands for

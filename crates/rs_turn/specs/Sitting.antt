@@ -1,8 +1,8 @@
 -- What clauses see of a lock and of a seat.
 use Rattle.std.specs.Prelude.{◌≡◌, ℕ, ◌<◌, ◌≤◌, List, [], Option}
 use Rattle.atomic_table.specs.Seated.{TableId}
-use Rattle.rs_turn.specs.declared.log_entry.LogEntry.{LogEntry}
-use Rattle.rs_turn.specs.Logs.{own}
+use Rattle.rs_path.specs.declared.log_entry.LogEntry.{LogEntry}
+use Rattle.rs_path.specs.Logs.{own}
 use Rattle.rs_turn.specs.Limits.{max_seats}
 
 -- which lock it is, and the value that it was made with, as it was then

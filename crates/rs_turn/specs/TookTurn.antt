@@ -1,7 +1,7 @@
 -- What a turn did.
-use Rattle.std.specs.Prelude.{◌≡◌, ℕ, ◌+◌, ◌^◌, ◌<◌, ◌⊎◌, List, length, Option, Some, None}
-use Rattle.rs_turn.specs.declared.log_entry.LogEntry.{LogEntry}
-use Rattle.rs_turn.specs.Logs.{StartsWith, own}
+use Rattle.std.specs.Prelude.{◌≡◌, ℕ, ◌+◌, ◌^◌, ◌<◌, ◌⊎◌, List, length, Option, None}
+use Rattle.rs_path.specs.declared.log_entry.LogEntry.{LogEntry}
+use Rattle.rs_path.specs.Logs.{StartsWith, own}
 use Rattle.rs_turn.specs.Entries.{extended}
 use Rattle.rs_turn.specs.Origins.{BeginsAsMade, HasBasisOf}
 use Rattle.rs_turn.specs.Places.{added, grown_by}

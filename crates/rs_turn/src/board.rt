@@ -2,9 +2,9 @@
 //!
 //! Word 0 counts the tickets drawn and word 1 those served, both modulo 2 to the 64th. Word 2 is the length of the history, and word 3 the
 //! number of the last seat that was numbered. The one slot holds the value, but for the time from the look that finds a seat's ticket to its pass.
-use crate::log_entry::LogEntry;
 use crate::held::Held;
 use atomic_table::{Seat, Shared, Table, TableRule};
+use rs_path::LogEntry;
 use std::alloc::Global;
 use std::collections::LinkedList;
 use std::snapshot::Snapshot;

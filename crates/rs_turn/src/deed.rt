@@ -5,7 +5,7 @@ use crate::held::Held;
 pub trait Deed<V: Held> {
     ghost use Rattle.std.specs.Prelude.{◌≡◌, ◌≤◌, ℕ, Bool, true, ◌⊎◌, List, [], ◌∷◌, ◌++◌, Option, Some};
     ghost use Rattle.rs_face.specs.Causes.{Rose};
-    ghost use Rattle.rs_turn.specs.declared.log_entry.LogEntry.{LogEntry};
+    ghost use Rattle.rs_path.specs.declared.log_entry.LogEntry.{LogEntry};
 
     /// What the caller is told.
     type Answer;

@@ -5,7 +5,7 @@
 /// The `who` of an entry is the number of the seat whose turn added it. Those that the value had when its lock was made have 0.
 pub trait Held: Drop {
     ghost use Rattle.std.specs.Prelude.{◌≡◌, ℕ, List, length};
-    ghost use Rattle.rs_turn.specs.declared.log_entry.LogEntry.{LogEntry};
+    ghost use Rattle.rs_path.specs.declared.log_entry.LogEntry.{LogEntry};
 
     /// What an entry says.
     type What;

@@ -6,15 +6,12 @@ mod deed;
 mod held;
 mod limits;
 mod lock;
-mod log_entry;
 mod meeting;
 mod plays;
 mod seat;
 mod seat_fault;
 mod splitting;
 mod steps;
-#[cfg(test)]
-mod tests;
 mod turn;
 mod waiting;
 
@@ -22,6 +19,5 @@ pub use deed::Deed;
 pub use held::Held;
 pub use limits::{MAX_SEATS, limit_laws};
 pub use lock::TurnLock;
-pub use log_entry::LogEntry;
 pub use seat::Seat;
 pub use seat_fault::SeatFault;

@@ -1,7 +1,7 @@
 //! The lock.
 ghost use Rattle.std.specs.Prelude.{◌≡◌, ℕ, ◌<◌, List, [], Some, IfOk};
-ghost use Rattle.rs_turn.specs.declared.log_entry.LogEntry.{LogEntry};
-ghost use Rattle.rs_turn.specs.Logs.{StartsWith, own};
+ghost use Rattle.rs_path.specs.declared.log_entry.LogEntry.{LogEntry};
+ghost use Rattle.rs_path.specs.Logs.{StartsWith, own};
 ghost use Rattle.rs_turn.specs.Origins.{BeginsAs, BeginsAsMade, HasBasisOf};
 
 use crate::board::Owned;

@@ -1,6 +1,6 @@
 //! Two seats meet.
 ghost use Rattle.std.specs.Prelude.{◌≡◌, length};
-ghost use Rattle.rs_turn.specs.Logs.{StartsWith, own};
+ghost use Rattle.rs_path.specs.Logs.{StartsWith, own};
 ghost use Rattle.rs_turn.specs.Origins.{BeginsAsMade};
 
 use crate::held::Held;

@@ -3,7 +3,7 @@ ghost use Rattle.std.specs.Prelude.{◌≡◌, ℕ, ◌+◌, ◌^◌, ◌<◌, �
 ghost use Rattle.rs_turn.specs.declared.board.Stage.TheVariants.{Idle, Waiting, Holding, Looked, Drew};
 ghost use Rattle.rs_turn.specs.Places.{IsPlaceOf, IsAtRest, grown_by};
 ghost use Rattle.rs_turn.specs.Plays.{DrawsTicket, Books, Passes, Sees, Numbers, CountsLog, Adopts, Looks, at_stage, parted, informed, spent};
-ghost use Rattle.rs_turn.specs.Logs.{StartsWith};
+ghost use Rattle.rs_path.specs.Logs.{StartsWith};
 ghost use Rattle.rs_turn.specs.Origins.{StandsFrom};
 
 use crate::board::{Board, COUNT, MADE, Place, SERVING, TICKET};

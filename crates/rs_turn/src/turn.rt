@@ -1,7 +1,7 @@
 //! A turn.
 ghost use Rattle.std.specs.Prelude.{◌≡◌, ℕ, ◌+◌, ◌^◌, ◌<◌, cond, List, [], length};
 ghost use Rattle.rs_face.specs.Causes.{one_more};
-ghost use Rattle.rs_turn.specs.declared.log_entry.LogEntry.{LogEntry};
+ghost use Rattle.rs_path.specs.declared.log_entry.LogEntry.{LogEntry};
 ghost use Rattle.rs_turn.specs.Origins.{BeginsAsMade};
 ghost use Rattle.rs_turn.specs.Places.{IsPlaceOf, IsAtRest};
 ghost use Rattle.rs_turn.specs.Plays.{having_seen};

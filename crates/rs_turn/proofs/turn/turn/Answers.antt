@@ -1,7 +1,7 @@
 use Rattle.std.proofs.Common.{rules, ◌≡◌, ℕ, List, sym, ap, ◌∙◌, subst}
-use Rattle.rs_turn.specs.Logs.{own}
+use Rattle.rs_path.specs.Logs.{own}
 use Rattle.rs_turn.specs.Entries.{extended}
-use Rattle.rs_turn.specs.declared.log_entry.LogEntry.{LogEntry}
+use Rattle.rs_path.specs.declared.log_entry.LogEntry.{LogEntry}
 use Rattle.rs_turn.specs.Origins.{HasBasisOf, BeginsAsMade}
 use Rattle.rs_turn.specs.Places.{added}
 use Rattle.rs_turn.proofs.Cited.{begins_on}
@@ -36,4 +36,4 @@ returns-clause-started g c =
     let origin = c.args.place.now.me.0.origin in
     let after = ap (λ v. v.seen) c.pass.ensures.passed.1 ∙ ap (λ v. v.seen) c.book.ensures.booked.1 in
     subst (λ (list : List (LogEntry g.row.V-What.Denot)). BeginsAsMade g.V.Held.stands origin list) (sym after)
-        (begins_on g.V.Held.stands origin _ c.args.place.now.me.0.seen (begins_extended mid c.args.place.now.me.0.seen _ _ took.5) c.requires.started)
+    (begins_on g.V.Held.stands origin _ c.args.place.now.me.0.seen (begins_extended mid c.args.place.now.me.0.seen _ _ took.5) c.requires.started)

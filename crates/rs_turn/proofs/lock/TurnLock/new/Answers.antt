@@ -11,6 +11,6 @@ new-requires-2 g c =
     let slots : c.push.new.self.items ≡ Some c.in_ok-value.value ∷ [] = search rules in
     let basis = ap g.V.Held.basis (boxed ∙ sym about) in
     let kept = opens g.V.Held.stands (λ o b. StandsFrom g.V.Held.stands g.V.Held.basis o b.value) c.of-about.result.value c.in_ok-value.value h.0
-        (subst (λ v. g.V.Held.stands v h.0) (sym about) h.1) (subst (λ v. g.V.Held.stands v h.0) (sym boxed) h.1, basis) h.2 in
+    (subst (λ v. g.V.Held.stands v h.0) (sym about) h.1) (subst (λ v. g.V.Held.stands v h.0) (sym boxed) h.1, basis) h.2 in
     let len = c.len.ensures h.0 h.1 in
     rw (len, slots) kept

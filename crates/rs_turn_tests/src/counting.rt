@@ -1,8 +1,8 @@
 //! A counter behind the lock.
 ghost use Rattle.std.specs.Prelude.{◌≡◌, ◌<◌, ℕ, [], IfOk};
 
-use crate::{Deed, Held, Seat, TurnLock};
 use rs_path::NoMemory;
+use rs_turn::{Deed, Held, Seat, TurnLock};
 use std::alloc::Global;
 use std::sync::Wait;
 use std::test::Fail;
