@@ -3,19 +3,19 @@ use Rattle.std.proofs.Common.{◌≡◌, ℕ, ◌+◌, zero, suc, ◌≤◌, tru
 use Rattle.std.proofs.lemmas.Bool.{cond-true, cond-false}
 use Rattle.std.proofs.lemmas.Option.{slice_get_within, get_or_from_slice_get}
 use Rattle.std.proofs.lemmas.List.{at_drop_more, map-append}
+use Rattle.rs_path.specs.declared.log_entry.LogEntry.{LogEntry}
 use Rattle.rs_record.specs.declared.record_fault.RecordFault.TheVariants.{Bad}
 use Rattle.rs_record.specs.declared.records.Record.{Record}
 use Rattle.rs_record.specs.Rows.{spelling}
 use Rattle.rs_record.specs.RowReadings.{record_reading}
-use Rattle.rs_rules.specs.declared.log_entry.LogEntry.{LogEntry}
 use Rattle.rs_rules.specs.declared.open_fault.OpenFault.{OpenFault}
 use Rattle.rs_rules.specs.declared.open_fault.OpenFault.TheVariants.{BadRow, Unlawful, KeeperFailed, NoMemory}
 use Rattle.rs_rules.specs.Histories.{History, start, empty_base, with_entry}
 use Rattle.rs_rules.specs.Contents.{Contents}
 use Rattle.rs_user.specs.declared.state.UserState.{UserState}
 use Rattle.rs_user.specs.Standing.{StandsFor}
-use Rattle.rs_user.proofs.SpellingLemmas.{nobody_more}
 use Rattle.rs_user.specs.Openings.{may_be_next, with_reading, ◌>>=◌, opening_from, opening, rows_of, by_nobody, Opened, Opens, TakesRow}
+use Rattle.rs_user.proofs.SpellingLemmas.{nobody_more}
 
 -- the rows before the index are opened as the history
 pub record IsUnderWay (index : ℕ) (h : History) (kept : List (List ℕ)) : Type 0 where
@@ -37,7 +37,7 @@ left_of kept index row is =
     ∙ ap (λ first. first ∷ drop (index + 1) kept) (get_or_from_slice_get kept index row [] is)
 
 rows_more : (h : History) (what : Record) → rows_of (and_read h what) ≡ rows_of h ++ spelling what ∷ []
-rows_more h what = map-append (λ (e : LogEntry). spelling e.what) h.entries (record { who = 0; what = what } ∷ [])
+rows_more h what = map-append (λ (e : LogEntry Record). spelling e.what) h.entries (record { who = 0; what = what } ∷ [])
 
 pub goes_on : (index : ℕ) (h : History) (kept : List (List ℕ)) (row : List ℕ) (what : Record) → slice_get kept index ≡ Some row
     → record_reading row ≡ Ok what → row ≡ spelling what → may_be_next h what ≡ true → IsUnderWay index h kept

@@ -1,11 +1,11 @@
 -- What rows are opened as.
 use Rattle.std.specs.Prelude.{◌≡◌, ℕ, ◌+◌, Bool, true, false, ◌&&◌, nat_lt, List, [], ◌∷◌, map, Option, IfSome, Result, Ok, Err, if◌then◌else◌}
+use Rattle.rs_path.specs.declared.log_entry.LogEntry.{LogEntry}
 use Rattle.rs_record.specs.declared.record_fault.RecordFault.{RecordFault}
 use Rattle.rs_record.specs.declared.record_fault.RecordFault.TheVariants.{Bad, NoMemory as NoMemoryToRead}
 use Rattle.rs_record.specs.declared.records.Record.{Record}
 use Rattle.rs_record.specs.Rows.{spelling}
 use Rattle.rs_record.specs.RowReadings.{record_reading}
-use Rattle.rs_rules.specs.declared.log_entry.LogEntry.{LogEntry}
 use Rattle.rs_rules.specs.declared.open_fault.OpenFault.{OpenFault}
 use Rattle.rs_rules.specs.declared.open_fault.OpenFault.TheVariants.{BadRow, Unlawful, KeeperFailed, NoMemory}
 use Rattle.rs_rules.specs.Limits.{max_len}
@@ -47,19 +47,19 @@ opening rows = opening_from 0 (start empty_base) rows
 
 -- the rows of a history since its cut
 abbrev pub rows_of : History → List (List ℕ)
-rows_of h = map (λ (e : LogEntry). spelling e.what) h.entries
+rows_of h = map (λ (e : LogEntry Record). spelling e.what) h.entries
 
 -- the history, of which isn't known who made its entries
 abbrev pub by_nobody : History → History
-by_nobody h = record { base = h.base; entries = map (λ (e : LogEntry). record { who = 0; what = e.what }) h.entries }
+by_nobody h = record { base = h.base; entries = map (λ (e : LogEntry Record). record { who = 0; what = e.what }) h.entries }
 
 -- the rows are those of the history, and are opened as it
 abbrev pub AreRows : List (List ℕ) → History → Type 0
 AreRows rows h = (rows ≡ rows_of h) × (opening rows ≡ Ok (by_nobody h))
 
 -- the told rows are those of the history
-abbrev pub Spells : Option (List (List ℕ)) → History → Type 0
-Spells told h = IfSome told (λ rows. AreRows rows h)
+abbrev pub AreToldRows : Option (List (List ℕ)) → History → Type 0
+AreToldRows told h = IfSome told (λ rows. AreRows rows h)
 
 module _ {T R : Type 0} (tree_stands : T → Contents → Type 0) where
   -- the state stands for the history that the rows spell
