@@ -19,7 +19,7 @@ use Rattle.rs_rules.specs.Versions.{writes_below, is_there, last_below, doc_vers
 use Rattle.rs_rules.specs.Tokens.{scopes_of, scopes_after}
 use Rattle.rs_rules.specs.Snapshots.{snapshot}
 use Rattle.rs_rules.specs.Lawful.{may_follow, AllFollow, IsLawful}
-use Rattle.rs_user.specs.Openings.{may_be_next, with_reading, ◌>>=◌, opening_from, rows_of, by_nobody, AreRows, AreToldRows}
+use Rattle.rs_user.specs.Openings.{may_be_next, with_reading, if_opened, opening_from, rows_of, by_nobody, AreRows, AreToldRows}
 
 -- ---- who made the entries isn't looked at
 
@@ -79,7 +79,7 @@ history_or other (Ok h) = h
 history_or other (Err fault) = other
 
 bind_more : (f g : History → Result History OpenFault) (first : Result History OpenFault) (now after : History)
-    → ((x : History) → f x ≡ Ok now → g x ≡ Ok after) → first >>= f ≡ Ok now → first >>= g ≡ Ok after
+    → ((x : History) → f x ≡ Ok now → g x ≡ Ok after) → if_opened first f ≡ Ok now → if_opened first g ≡ Ok after
 bind_more f g (Ok x) now after more is = more x is
 bind_more f g (Err fault) now after more is = cc
 
@@ -89,9 +89,9 @@ opening_more : (index : ℕ) (h now : History) (rows : List (List ℕ)) (row : L
 unfolding history_or
 opening_more index h now [] row what is reads may =
     let same : now ≡ h = sym (ap (history_or h) is) in
-    ap (λ reading. with_reading index h reading >>= λ x. opening_from (index + 1) x []) reads
-    ∙ subst (λ (x : History). with_reading index x (Ok what) >>= (λ y. opening_from (index + 1) y []) ≡ Ok (with_entry now (record { who = 0; what = what }))) same
-    (ap (λ b. cond b (Ok (with_entry now (record { who = 0; what = what }))) (Err (Unlawful index)) >>= λ y. opening_from (index + 1) y []) may)
+    ap (λ reading. if_opened (with_reading index h reading) (λ x. opening_from (index + 1) x [])) reads
+    ∙ subst (λ (x : History). if_opened (with_reading index x (Ok what)) (λ y. opening_from (index + 1) y []) ≡ Ok (with_entry now (record { who = 0; what = what }))) same
+    (ap (λ b. if_opened (cond b (Ok (with_entry now (record { who = 0; what = what }))) (Err (Unlawful index))) (λ y. opening_from (index + 1) y [])) may)
 opening_more index h now (first ∷ rows) row what is reads may =
     bind_more (λ x. opening_from (index + 1) x rows) (λ x. opening_from (index + 1) x (rows ++ row ∷ [])) (with_reading index h (record_reading first))
     now (with_entry now (record { who = 0; what = what })) (λ x same. opening_more (index + 1) x now rows row what same reads may) is

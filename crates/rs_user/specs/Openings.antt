@@ -27,17 +27,16 @@ with_reading index h (Ok what) =
 with_reading index h (Err (Bad place)) = Err (BadRow index place)
 with_reading index h (Err NoMemoryToRead) = Err NoMemory
 
--- the `?` of the logic: what follows, if there is no fault
-infixl 10 ◌>>=◌
-abbrev pub ◌>>=◌ : {A B : Type 0} → Result A OpenFault → (A → Result B OpenFault) → Result B OpenFault
-Ok x >>= f = f x
-Err fault >>= f = Err fault
+-- what follows the history, if there is no fault
+abbrev pub if_opened : Result History OpenFault → (History → Result History OpenFault) → Result History OpenFault
+if_opened (Ok h) rest = rest h
+if_opened (Err fault) rest = Err fault
 
 -- the history and the records of more rows, of which the first has the index; the first row that is no record, or whose
 -- record doesn't stand rightly after those before it, is refused
 abbrev pub opening_from : ℕ → History → List (List ℕ) → Result History OpenFault
 opening_from index h [] = Ok h
-opening_from index h (row ∷ rows) = with_reading index h (record_reading row) >>= λ now. opening_from (index + 1) now rows
+opening_from index h (row ∷ rows) = if_opened (with_reading index h (record_reading row)) (λ now. opening_from (index + 1) now rows)
 
 -- the history that rows spell
 abbrev pub opening : List (List ℕ) → Result History OpenFault

@@ -26,12 +26,12 @@ module _ {T R : Type 0} (tree_stands : T → Contents → Type 0) where
 
 module _ {T R K : Type 0} (tree_stands : T → Contents → Type 0) (row_count faults : K → ℕ) where
   -- the user 0 is served: the state stands for a history, and there are as many rows as it counts
-  abbrev pub IsServed : UserState T R → K → ℕ → Type 0
-  IsServed state keeper user = (user ≡ 0) × (row_count keeper ≡ state.rows) × ((h : History) × StandsFor tree_stands state h)
+  abbrev pub SoloServes : UserState T R → K → ℕ → Type 0
+  SoloServes state keeper user = (user ≡ 0) × (row_count keeper ≡ state.rows) × ((h : History) × StandsFor tree_stands state h)
 
   -- the second state and keeper are the first ones some turns later
   pub record IsLaterState (state : UserState T R) (keeper : K) (now : UserState T R) (kept : K) : Type 0 where
-    pub served : (user : ℕ) → IsServed state keeper user → IsServed now kept user
+    pub served : (user : ℕ) → SoloServes state keeper user → SoloServes now kept user
     pub same_quota : now.quota ≡ state.quota
     pub no_fewer : faults keeper ≤ faults kept
 

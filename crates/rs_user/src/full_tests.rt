@@ -214,8 +214,8 @@ fn readings<D: Desk>(rt: &impl Abort, alloc: Global, desk: &mut D) -> Result<(),
     assert_eq!(rt; *version, 4_294_967_295);
     assert_eq!(rt; items.as_slice().len(), 1);
     let item = items.as_slice().first().ok_or("no item")?;
-    assert_eq!(rt; item.name.as_slice(), b"x");
-    assert_eq!(rt; item.tag.as_slice(), b"4294967295");
+    assert_eq!(rt; item.name.as_slice(), b"x".as_slice());
+    assert_eq!(rt; item.tag.as_slice(), b"4294967295".as_slice());
     assert_eq!(rt; item.length, Some(5));
     Ok(())
 }

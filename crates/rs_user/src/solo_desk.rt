@@ -31,10 +31,10 @@ impl<'a, K: Keeper, T: Tree> SoloDesk<'a, K, T> {
 impl<'a, K: Keeper, T: Tree> Desk for SoloDesk<'a, K, T> {
     ghost use Rattle.std.specs.Prelude.{◌≡◌, ℕ, true, refl};
     ghost use Rattle.std.proofs.Common.{◌∙◌, ap};
-    ghost use Rattle.rs_user.specs.Standing.{StandsFor, IsServed, IsLaterState, later_itself, later_trans};
+    ghost use Rattle.rs_user.specs.Standing.{StandsFor, SoloServes, IsLaterState, later_itself, later_trans};
     ghost use Rattle.rs_user.specs.Openings.{AreToldRows};
 
-    ghost serves = { λ desk user. IsServed T.stands K.row_count K.faults desk.state.now desk.keeper.now user };
+    ghost serves = { λ desk user. SoloServes T.stands K.row_count K.faults desk.state.now desk.keeper.now user };
 
     ghost stands = { λ desk user h. (user ≡ 0) × StandsFor T.stands desk.state.now h × AreToldRows (K.rows desk.keeper.now) h };
 
