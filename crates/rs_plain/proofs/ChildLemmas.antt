@@ -1,9 +1,9 @@
 -- How many children a folder has.
-use Rattle.std.proofs.Common.{◌≡◌, ℕ, ◌+◌, ◌<◌, ◌≤◌, Bool, true, false, not, ◌||◌, cond, List, [], ◌∷◌, ◌++◌, length, take, get_or, fold, filter_map, Option, Some, None, arith, refl, sym, ap, ◌∙◌, length-append}
+use Rattle.std.proofs.Common.{◌≡◌, ℕ, ◌+◌, ◌<◌, Bool, true, false, not, ◌||◌, cond, List, [], ◌∷◌, ◌++◌, length, take, get_or, fold, filter_map, Option, Some, None, refl, sym, ap, ◌∙◌}
 use Rattle.std.specs.List.{list_any, cons_option}
 use Rattle.std.specs.Ordering.{eq_by_cmp}
 use Rattle.std.specs.BTreeSet.{insert_key}
-use Rattle.std.proofs.lemmas.List.{take_more, map-append, length-map}
+use Rattle.std.proofs.lemmas.List.{take_more, map-append}
 use Rattle.std.proofs.lemmas.List.Sums.{fold-append}
 use Rattle.std.proofs.lemmas.List.Elements.{filter_map-append}
 use Rattle.rs_path.specs.declared.child.Child.{Child}
@@ -14,7 +14,7 @@ use Rattle.rs_rules.specs.declared.placed.Placed.{Placed}
 use Rattle.rs_rules.specs.Contents.{paths_in}
 use Rattle.rs_rules.specs.Listings.{children}
 use Rattle.rs_plain.specs.Steps.{is_to, is_seen, is_fresh}
-use Rattle.rs_plain.proofs.CountLemmas.{sorted_fold, sorted_none, length_insert, any_fold, fold_few}
+use Rattle.rs_plain.proofs.CountLemmas.{sorted_fold, sorted_none, length_insert, any_fold}
 
 -- the children that some paths lead to, in the order of the paths
 abbrev found : Path → List Placed → List Child
@@ -70,25 +70,3 @@ length_more f ds p = ap length (children_more f (paths_in ds) p) ∙ by (child_t
         length_insert child_cmp child_cmp_total c (children f (paths_in ds)) (sorted_fold child_cmp child_cmp_total (found f ds) [] (sorted_none child_cmp child_cmp_total))
         ∙ ap (λ b. cond b (length (children f (paths_in ds))) (length (children f (paths_in ds)) + 1)) (any_children f ds c)
         ∙ turned (is_seen f ds c) (length (children f (paths_in ds)))
-
--- ---- at most as many children as paths
-
-found_few : (f : Path) (ps : List Path) → length (filter_map (child_towards f) ps) ≤ length ps
-found_few f [] = omega arith
-found_few f (p ∷ ps) = by (child_towards f p) (found_few f ps)
-  where
-    by : (o : Option Child) → length (filter_map (child_towards f) ps) ≤ length ps
-        → length (cons_option o (filter_map (child_towards f) ps)) ≤ length (p ∷ ps)
-    by None rest = omega (arith, rest)
-    by (Some c) rest = omega (arith, rest)
-
-pub few_children : (f : Path) (ps : List Path) → length (children f ps) ≤ length ps
-few_children f ps =
-    let rest = found_few f ps in
-    let all = fold_few child_cmp child_cmp_total (filter_map (child_towards f) ps) [] in omega (arith, rest, all)
-
-pub few_more : (f : Path) (ds : List Placed) (p : Path) → length (children f (paths_in ds ++ p ∷ [])) ≤ length ds + 1
-few_more f ds p =
-    let all = few_children f (paths_in ds ++ p ∷ []) in
-    let joined = length-append (paths_in ds) (p ∷ []) in
-    let same = length-map ds (λ (d : Placed). d.path) in omega (arith, all, joined, same)

@@ -102,20 +102,3 @@ module _ {K : Type 0} (cmp : K → K → Ordering) (o : IsTotalOrder cmp) where
   any_fold q (x ∷ xs) ks =
       any_fold q xs (insert_key cmp ks x) ∙ ap (λ b. list_any (eq_by_cmp cmp q) xs || b) (any_insert q x ks)
       ∙ or_move (list_any (eq_by_cmp cmp q) xs) (eq_by_cmp cmp q x) (list_any (eq_by_cmp cmp q) ks)
-
-  -- no more keys than were put in
-  insert_few : (k : K) (xs : List K) → length (insert_key cmp xs k) ≤ length xs + 1
-  insert_few k [] = omega arith
-  insert_few k (x ∷ xs) = by (cmp k x) (insert_few k xs)
-    where
-      by : (r : Ordering) → length (insert_key cmp xs k) ≤ length xs + 1
-          → length (match_ordering r (k ∷ x ∷ xs) (x ∷ xs) (x ∷ insert_key cmp xs k)) ≤ length (x ∷ xs) + 1
-      by Less rest = omega arith
-      by Equal rest = omega arith
-      by Greater rest = omega (arith, rest)
-
-  pub fold_few : (xs ks : List K) → length (fold (insert_key cmp) ks xs) ≤ length ks + length xs
-  fold_few [] ks = omega arith
-  fold_few (x ∷ xs) ks =
-      let rest = fold_few xs (insert_key cmp ks x) in
-      let one = insert_few x ks in omega (arith, rest, one)

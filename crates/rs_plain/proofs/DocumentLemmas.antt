@@ -3,7 +3,7 @@ use Rattle.std.proofs.Common.{◌≡◌, ℕ, Bool, true, false, ◌||◌, cond,
 use Rattle.std.specs.List.{list_any}
 use Rattle.rs_path.specs.Paths.{document_at, same_path}
 use Rattle.rs_rules.specs.declared.placed.Placed.{Placed}
-use Rattle.rs_rules.specs.Clashes.{is_document}
+use Rattle.rs_rules.specs.Clashes.{has_document}
 
 -- something is found just where something passes
 found_any : {X Y : Type 0} (f : X → Y) (p : X → Bool) (xs : List X) → is_some (option_map f (find p xs)) ≡ list_any p xs
@@ -14,5 +14,5 @@ found_any f p (x ∷ xs) = by (p x) (found_any f p xs)
     by true rest = refl
     by false rest = rest
 
-pub is_document_any : (docs : List Placed) (names : List (List ℕ)) → is_document docs names ≡ list_any (λ (d : Placed). same_path (document_at names) d.path) docs
-is_document_any docs names = found_any (λ (d : Placed). d.doc) (λ (d : Placed). same_path (document_at names) d.path) docs
+pub has_document_any : (docs : List Placed) (names : List (List ℕ)) → has_document docs names ≡ list_any (λ (d : Placed). same_path (document_at names) d.path) docs
+has_document_any docs names = found_any (λ (d : Placed). d.doc) (λ (d : Placed). same_path (document_at names) d.path) docs

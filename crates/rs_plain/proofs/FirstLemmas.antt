@@ -10,7 +10,7 @@ use Rattle.rs_path.specs.ChildOrder.{same_child-Decides}
 use Rattle.rs_path.specs.Children.{child_at, child_towards, same_child}
 use Rattle.rs_rules.specs.declared.placed.Placed.{Placed}
 use Rattle.rs_rules.specs.Sound.{are_distinct, AreDistinct}
-use Rattle.rs_rules.proofs.DocLemmas.{same_itself}
+use Rattle.rs_rules.proofs.Cited.{same_itself}
 use Rattle.rs_plain.specs.Steps.{is_to, is_seen, is_fresh, is_first}
 
 -- at a place of a list of which each passes

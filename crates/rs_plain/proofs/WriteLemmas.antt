@@ -10,14 +10,12 @@ use Rattle.rs_path.specs.Below.{is_below}
 use Rattle.rs_record.specs.declared.records.Record.{Record}
 use Rattle.rs_record.specs.declared.records.Record.TheVariants.{Put, Remove}
 use Rattle.rs_rules.specs.declared.placed.Placed.{Placed}
-use Rattle.rs_rules.specs.Documents.{others, placed, docs_after, doc_in, live_in}
+use Rattle.rs_rules.specs.Documents.{others, placed_document, docs_after, doc_in, live_in}
 use Rattle.rs_rules.specs.Versions.{writes_below, is_there}
 use Rattle.rs_rules.specs.Contents.{Contents, contents_after, version_after}
-use Rattle.rs_rules.proofs.FindLemmas.{any-filter_other, all-filter}
-use Rattle.rs_rules.proofs.DocLemmas.{same_itself, same_from, not_same, is_there-quiet}
-use Rattle.rs_rules.proofs.SoundLaws.{distinct-after}
+use Rattle.rs_rules.proofs.Cited.{same_itself, same_from, not_same, is_there-quiet, any-filter_other, all-filter, distinct-after}
 use Rattle.rs_plain.specs.declared.write.Write.{Write}
-use Rattle.rs_plain.specs.PlainTrees.{last_write, version_in, shown, other_writes, is_written, are_written, StandsFor}
+use Rattle.rs_plain.specs.PlainTrees.{last_write, version_in, contents_in, other_writes, is_written, are_written, ListsStandFor}
 
 -- ---- the last write below a folder
 
@@ -77,7 +75,7 @@ module _ (n : ℕ) (r : Record) (p : Path) (docs : List Placed) (ws : List Write
       → version_after n r (docs_after n r docs) q (version_in docs ws q) ≡ version_in (docs_after n r docs) (written p n ws) q
   document_after q document = cond-false q.folder _ _ document ∙ sym (cond-false q.folder _ _ document)
 
-  shown_after : contents_after n r (shown docs ws) ≡ shown (docs_after n r docs) (written p n ws)
+  shown_after : contents_after n r (contents_in docs ws) ≡ contents_in (docs_after n r docs) (written p n ws)
   shown_after =
       let make : (Path → ℕ) → Contents = λ v. record { docs = docs_after n r docs; version = v } in
       ap make (fun_ext (λ q. ⊎_elim (folder_after q) (document_after q) (cases_Bool q.folder)))
@@ -125,9 +123,9 @@ others_written p n ds ws all =
     all-filter (λ (d : Placed). not (same_path p d.path)) (λ (d : Placed). is_written (written p n ws) d.path) ds (all_written p n ds ws all)
 
 put_written : (p : Path) (n : ℕ) (k b : List ℕ) (ds : List Placed) (ws : List Write) → are_written ds ws ≡ true
-    → are_written (others p ds ++ placed n p k b ∷ []) (written p n ws) ≡ true
+    → are_written (others p ds ++ placed_document n p k b ∷ []) (written p n ws) ≡ true
 put_written p n k b ds ws all =
-    list_all-append (λ (d : Placed). is_written (written p n ws) d.path) (others p ds) (placed n p k b ∷ [])
+    list_all-append (λ (d : Placed). is_written (written p n ws) d.path) (others p ds) (placed_document n p k b ∷ [])
     ∙ and_from _ _ (others_written p n ds ws all) (and_from _ _ (written_itself p n ws) refl)
 
 -- ---- a path that was never written
@@ -167,11 +165,11 @@ live-others p (d ∷ ds) =
 
 -- ---- what the lists stand for after a write
 
-pub put_stands : (docs : List Placed) (ws : List Write) (w : Contents) (n : ℕ) (p : Path) (k b : List ℕ) (by : Option (List ℕ)) → StandsFor docs ws w
-    → live_in docs + length b < 2 ^ 64 → StandsFor (others p docs ++ placed n p k b ∷ []) (written p n ws) (contents_after n (Put p k b by) w)
+pub put_stands : (docs : List Placed) (ws : List Write) (w : Contents) (n : ℕ) (p : Path) (k b : List ℕ) (by : Option (List ℕ)) → ListsStandFor docs ws w
+    → live_in docs + length b < 2 ^ 64 → ListsStandFor (others p docs ++ placed_document n p k b ∷ []) (written p n ws) (contents_after n (Put p k b by) w)
 put_stands docs ws w n p k b by s room =
     let kept = live-others p docs in
-    let all = sum_by_push (λ (e : Placed). length e.doc.body) (others p docs) (placed n p k b) in
+    let all = sum_by_push (λ (e : Placed). length e.doc.body) (others p docs) (placed_document n p k b) in
     record {
       same = ap (contents_after n (Put p k b by)) s.same ∙ shown_after n (Put p k b by) p docs ws (λ q. refl);
       distinct = distinct-after n (Put p k b by) docs s.distinct;
@@ -179,8 +177,8 @@ put_stands docs ws w n p k b by s room =
       live = omega (arith, kept, all, room);
     }
 
-pub remove_stands : (docs : List Placed) (ws : List Write) (w : Contents) (n : ℕ) (p : Path) (by : Option (List ℕ)) → StandsFor docs ws w
-    → StandsFor (others p docs) (written p n ws) (contents_after n (Remove p by) w)
+pub remove_stands : (docs : List Placed) (ws : List Write) (w : Contents) (n : ℕ) (p : Path) (by : Option (List ℕ)) → ListsStandFor docs ws w
+    → ListsStandFor (others p docs) (written p n ws) (contents_after n (Remove p by) w)
 remove_stands docs ws w n p by s =
     let kept = live-others p docs in
     let room = s.live in
@@ -192,7 +190,7 @@ remove_stands docs ws w n p by s =
     }
 
 -- where a Put has room in some contents that the lists stand for, it has room in the lists
-pub put_room : (docs : List Placed) (ws : List Write) (w : Contents) (b : List ℕ) → StandsFor docs ws w → live_in w.docs + length b < 2 ^ 64
+pub put_room : (docs : List Placed) (ws : List Write) (w : Contents) (b : List ℕ) → ListsStandFor docs ws w → live_in w.docs + length b < 2 ^ 64
     → live_in docs + length b < 2 ^ 64
 put_room docs ws w b s room = subst (λ (v : Contents). live_in v.docs + length b < 2 ^ 64) s.same room
 
@@ -210,7 +208,7 @@ found_written p (d ∷ ds) ws there all =
     found_written p ds ws rest parts.1)
     (cases_Bool (same_path p d.path))
 
-pub remove_written : (p : Path) (docs : List Placed) (ws : List Write) (w : Contents) → StandsFor docs ws w
+pub remove_written : (p : Path) (docs : List Placed) (ws : List Write) (w : Contents) → ListsStandFor docs ws w
     → is_some (doc_in p w.docs) ≡ true → is_written ws p ≡ true
 remove_written p docs ws w s there =
     found_written p docs ws (subst (λ (v : Contents). is_some (doc_in p v.docs) ≡ true) s.same there) s.written

@@ -22,8 +22,8 @@ version_in docs writes path =
     if path.folder then (if is_there path docs then last_write path writes else 0) else doc_version (doc_in path docs)
 
 -- what documents and the last write of each path show
-abbrev pub shown : List Placed → List Write → Contents
-shown docs writes = record { docs = docs; version = λ path. version_in docs writes path }
+abbrev pub contents_in : List Placed → List Write → Contents
+contents_in docs writes = record { docs = docs; version = λ path. version_in docs writes path }
 
 -- the writes of other paths
 abbrev pub other_writes : Path → List Write → List Write
@@ -38,14 +38,14 @@ abbrev pub are_written : List Placed → List Write → Bool
 are_written docs writes = list_all (λ (d : Placed). is_written writes d.path) docs
 
 -- documents and writes that stand for contents
-pub record StandsFor (docs : List Placed) (writes : List Write) (w : Contents) : Type 0 where
-  pub same : w ≡ shown docs writes
+pub record ListsStandFor (docs : List Placed) (writes : List Write) (w : Contents) : Type 0 where
+  pub same : w ≡ contents_in docs writes
   pub distinct : are_distinct docs ≡ true
   pub written : are_written docs writes ≡ true
   pub live : live_in docs < 2 ^ 64
 
 -- copies of what a Put brings, and room for it
-pub record IsReady (docs_len docs_room writes_len writes_room : ℕ) (room : Room) (at : Path) (of : List ℕ) (text : List ℕ) : Type 0 where
+pub record IsRoomFor (docs_len docs_room writes_len writes_room : ℕ) (room : Room) (at : Path) (of : List ℕ) (text : List ℕ) : Type 0 where
   pub path : room.path ≡ at
   pub written : room.written ≡ at
   pub kind : room.kind ≡ of
@@ -53,5 +53,5 @@ pub record IsReady (docs_len docs_room writes_len writes_room : ℕ) (room : Roo
   pub docs : docs_len < docs_room
   pub writes : writes_len < writes_room
 
-pub stands_distinct : (docs : List Placed) (writes : List Write) (w : Contents) → StandsFor docs writes w → AreDistinct w.docs
+pub stands_distinct : (docs : List Placed) (writes : List Write) (w : Contents) → ListsStandFor docs writes w → AreDistinct w.docs
 stands_distinct docs writes w s = ap (λ (v : Contents). are_distinct v.docs) s.same ∙ s.distinct

@@ -29,7 +29,7 @@ pub(crate) fn has_below(names: &[Name], docs: &[Placed]) -> bool
 }
 
 /// Whether a document stands at these names.
-fn is_document(docs: &[Placed], names: &[Name]) -> bool
+fn has_document(docs: &[Placed], names: &[Name]) -> bool
     ensures document { result ≡ list_any (λ (d : PlacedValue). same_path (document_at names.now) d.path) docs.now }
 {
     docs.iter().any(|placed| is_at(names, &placed.path))
@@ -67,7 +67,7 @@ pub(crate) fn clash_in(docs: &[Placed], path: &Path) -> Option<u32>
 {
     let names = path.names();
     for depth in 1..names.len() {
-        if is_document(docs, &names[..depth]) {
+        if has_document(docs, &names[..depth]) {
             return Some(depth as u32);
         }
     }

@@ -1,7 +1,7 @@
 //! Folders at their limit.
 
-ghost use Rattle.std.specs.Prelude.{◌≡◌, ◌≤◌, List, length};
-ghost use Rattle.rs_path.specs.Paths.{Path as PathValue, folder_at};
+ghost use Rattle.std.specs.Prelude.{◌≡◌, length};
+ghost use Rattle.rs_path.specs.Paths.{folder_at};
 ghost use Rattle.rs_path.specs.Children.{child_towards};
 ghost use Rattle.rs_rules.specs.Clashes.{full_in, is_full};
 ghost use Rattle.rs_rules.specs.Contents.{paths_in};
@@ -11,10 +11,7 @@ ghost use Rattle.rs_plain.specs.Steps.{is_to, is_seen, is_fresh, is_first};
 
 use crate::steps::step_towards;
 use rs_path::{Name, Path, child_laws};
-use rs_rules::Placed;
-
-/// The greatest number of items of a folder.
-const MAX_ITEMS: usize = 50000;
+use rs_rules::{MAX_ITEMS, Placed, listing_laws};
 
 /// The number of names of the first folder, from `/` down, that has no room for a document at the path.
 ///
@@ -31,15 +28,11 @@ pub(crate) fn full_in(docs: &[Placed], path: &Path) -> Option<u32>
     None
 }
 
-/// A folder has at most as many children as there are paths. It does nothing: its contract is the law.
-pub fn children_law()
-    ensures few { (folder : PathValue) (paths : List PathValue) → length (children folder paths) ≤ length paths }
-{}
-
 // Fewer documents than items fill no folder, so the children are counted only where there are as many.
 fn is_full(docs: &[Placed], path: &Path, names: &[Name]) -> bool
     ensures full { AreDistinct docs.now → result ≡ is_full docs.now path.now names.now }
 {
+    listing_laws();
     if docs.len() < MAX_ITEMS {
         return false;
     }

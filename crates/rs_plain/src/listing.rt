@@ -8,7 +8,7 @@ ghost use Rattle.rs_path.specs.Paths.{folder_at, document_at};
 ghost use Rattle.rs_path.specs.Children.{child_towards};
 ghost use Rattle.rs_rules.specs.Contents.{paths_in};
 ghost use Rattle.rs_rules.specs.Listings.{children, item_of, items_in};
-ghost use Rattle.rs_plain.specs.PlainTrees.{shown};
+ghost use Rattle.rs_plain.specs.PlainTrees.{contents_in};
 
 use crate::documents::find_at;
 use crate::steps::step_towards;
@@ -27,7 +27,7 @@ pub(crate) fn items_in(
     folder: &Path,
 ) -> Result<Items, NoMemory>
     requires folder { folder.now.folder ≡ true }
-    ensures items { IfOk result (λ items. items ≡ items_in (shown docs.now writes.now) folder.now) }
+    ensures items { IfOk result (λ items. items ≡ items_in (contents_in docs.now writes.now) folder.now) }
 {
     let children = children_of(alloc, folder, docs)?;
     let mut items = Items::new(alloc);
@@ -72,7 +72,7 @@ fn item_of(
     folder: &Path,
     child: &Child,
 ) -> Result<Entry, NoMemory>
-    ensures item { IfOk result (λ item. item ≡ item_of (shown docs.now writes.now) folder.now child.now) }
+    ensures item { IfOk result (λ item. item ≡ item_of (contents_in docs.now writes.now) folder.now child.now) }
 {
     let names = names_of(alloc, folder.names(), &child.name)?;
     if child.folder {

@@ -1,7 +1,7 @@
 //! Plain trees.
 
 ghost use Rattle.std.specs.Prelude.{◌≡◌, ◌∷◌, ◌++◌, [], ◌<◌, ◌≤◌, true, vec_len, vec_capacity};
-ghost use Rattle.rs_rules.specs.Documents.{others, placed};
+ghost use Rattle.rs_rules.specs.Documents.{others, placed_document};
 ghost use Rattle.rs_plain.specs.PlainTrees.{other_writes, is_written, are_written};
 
 use crate::documents::{clash_in, doc_in, live_in};
@@ -25,13 +25,13 @@ pub struct PlainTree {
 
 impl Tree for PlainTree {
     ghost use Rattle.std.specs.Prelude.{◌≤◌, vec_len, vec_capacity};
-    ghost use Rattle.rs_plain.specs.PlainTrees.{StandsFor, IsReady, stands_distinct};
+    ghost use Rattle.rs_plain.specs.PlainTrees.{ListsStandFor, IsRoomFor, stands_distinct};
 
     type Ready = Room;
 
-    ghost stands = { λ t w. StandsFor t.docs.items t.writes.items w × (vec_len t.writes ≤ vec_capacity t.writes) };
+    ghost stands = { λ t w. ListsStandFor t.docs.items t.writes.items w × (vec_len t.writes ≤ vec_capacity t.writes) };
 
-    ghost ready_for = { λ t room path kind body. IsReady (vec_len t.docs) (vec_capacity t.docs) (vec_len t.writes) (vec_capacity t.writes) room path kind body };
+    ghost ready_for = { λ t room path kind body. IsRoomFor (vec_len t.docs) (vec_capacity t.docs) (vec_len t.writes) (vec_capacity t.writes) room path kind body };
 
     ghost distinct = { λ t w s. stands_distinct t.docs.items t.writes.items w s.0 };
 
@@ -88,7 +88,7 @@ fn put_in(docs: &mut Vec<Placed>, writes: &mut Vec<Write>, n: u64, room: Room)
     requires writes { vec_len writes.old < vec_capacity writes.old }
     requires same { room.written ≡ room.path }
     requires written { are_written docs.old.items writes.old.items ≡ true }
-    ensures docs { docs.new.items ≡ others room.path docs.old.items ++ placed n room.path room.kind room.body ∷ [] }
+    ensures docs { docs.new.items ≡ others room.path docs.old.items ++ placed_document n room.path room.kind room.body ∷ [] }
     ensures writes { writes.new.items ≡ other_writes room.path writes.old.items ++ record { path = room.path; number = n } ∷ [] }
     ensures whole { vec_len writes.new ≤ vec_capacity writes.new }
 {

@@ -4,9 +4,10 @@ use Rattle.std.specs.Prelude.{is_some, is_none}
 use Rattle.std.specs.Str.{bytes_eq}
 use Rattle.std.proofs.lemmas.Bool.{cases_Bool, cond-true, cond-false, true≢false}
 use Rattle.std.proofs.lemmas.Slice.Eq.{bytes_eq-Decides}
+use Rattle.rs_path.specs.declared.log_entry.LogEntry.{LogEntry}
 use Rattle.rs_scope.specs.declared.scope.Scope.{Scope}
 use Rattle.rs_record.specs.declared.records.Record.TheVariants.{Grant, Revoke}
-use Rattle.rs_rules.specs.declared.log_entry.LogEntry.{LogEntry}
+use Rattle.rs_record.specs.declared.records.Record.{Record}
 use Rattle.rs_rules.specs.Limits.{max_len}
 use Rattle.rs_rules.specs.Histories.{History, len, with_entry}
 use Rattle.rs_rules.specs.Tokens.{scopes_of, scopes_after}
@@ -44,15 +45,15 @@ back h token other scopes given =
     (λ clear. cond-false (bytes_eq token other) (Some scopes) inner clear ∙ cond-false (bytes_eq token other) None (scopes_of h other) clear)
     (cases_Bool (bytes_eq token other))
 
-module _ (step_contents : (h : History) (e : LogEntry) → contents (with_entry h e) ≡ contents_after (len h + 1) e.what (contents h))
-    (step_scopes : (h : History) (e : LogEntry) (token : List ℕ) → scopes_of (with_entry h e) token ≡ scopes_after token (len h + 1) e.what (scopes_of h token))
-    (step_lawful : (h : History) (e : LogEntry) → IsLawful h → may_follow (snapshot h) e.what ≡ true → len h < max_len → IsLawful (with_entry h e)) where
+module _ (step_contents : (h : History) (e : LogEntry Record) → contents (with_entry h e) ≡ contents_after (len h + 1) e.what (contents h))
+    (step_scopes : (h : History) (e : LogEntry Record) (token : List ℕ) → scopes_of (with_entry h e) token ≡ scopes_after token (len h + 1) e.what (scopes_of h token))
+    (step_lawful : (h : History) (e : LogEntry Record) → IsLawful h → may_follow (snapshot h) e.what ≡ true → len h < max_len → IsLawful (with_entry h e)) where
   -- one revocation and one grant
   pair : (h : History) (token : List ℕ) (scopes : List Scope) → IsLawful h → scopes_of h token ≡ Some scopes → len h + 2 ≤ max_len
       → (later : History) × GoesOn h later 2
   pair h token scopes lawful given room =
-      let revoked : LogEntry = record { who = 0; what = Revoke token } in
-      let granted : LogEntry = record { who = 0; what = Grant token scopes } in
+      let revoked : LogEntry Record = record { who = 0; what = Revoke token } in
+      let granted : LogEntry Record = record { who = 0; what = Grant token scopes } in
       let without = with_entry h revoked in
       let one = length-append h.entries (revoked ∷ []) in
       let two = length-append without.entries (granted ∷ []) in

@@ -5,12 +5,13 @@ use Rattle.std.specs.List.{list_all}
 use Rattle.std.proofs.lemmas.Bool.{cases_Bool, cond-true, cond-false, true≢false}
 use Rattle.std.specs.Option.{option_or}
 use Rattle.std.proofs.lemmas.List.{get_or-map, length-map}
+use Rattle.rs_path.specs.Limits.{max_names}
 use Rattle.rs_path.specs.Names.{is_name}
 use Rattle.rs_path.specs.Paths.{Path, folder_at, is_nil, is_path}
 use Rattle.rs_path.specs.Below.{proper_fronts, ancestors_of}
 use Rattle.rs_rules.specs.declared.placed.Placed.{Placed}
 use Rattle.rs_rules.specs.Documents.{has_below}
-use Rattle.rs_rules.specs.Clashes.{first_front, is_document, first_document, is_full, clash_in, full_in}
+use Rattle.rs_rules.specs.Clashes.{first_front, has_document, first_document, is_full, clash_in, full_in}
 
 pub fronts_count : (names : List (List ℕ)) → length (proper_fronts names) ≡ length names
 fronts_count [] = refl
@@ -60,7 +61,7 @@ full_bound docs path k is = let found = front_bound (is_full docs path) [] path.
 first_bound : (docs : List Placed) (names : List (List ℕ)) (k : ℕ) → first_document docs names ≡ Some k → IsBetween 1 k (length names)
 first_bound docs [] k is = absurd (cc)
 first_bound docs (n ∷ ns) k is =
-    let found = front_bound (is_document docs) (n ∷ []) ns k is in record { above = found.above; below = omega (arith, found.below) }
+    let found = front_bound (has_document docs) (n ∷ []) ns k is in record { above = found.above; below = omega (arith, found.below) }
 
 clash_by : (docs : List Placed) (path : Path) (first : Option ℕ) (k : ℕ) → first_document docs path.names ≡ first → 0 < length path.names
     → option_or first (cond (has_below (folder_at path.names) docs) (Some (length path.names)) None) ≡ Some k
@@ -94,5 +95,5 @@ some_names (n ∷ ns) a b is = omega arith
 -- a document has a name
 pub document_named : (path : Path) → path.folder ≡ false → is_path path ≡ true → 0 < length path.names
 document_named path document is =
-    some_names path.names (list_all is_name path.names) (nat_le (length path.names) 32)
-    (subst (λ folder. (list_all is_name path.names && nat_le (length path.names) 32 && (folder || not (is_nil path.names))) ≡ true) document is)
+    some_names path.names (list_all is_name path.names) (nat_le (length path.names) max_names)
+    (subst (λ folder. (list_all is_name path.names && nat_le (length path.names) max_names && (folder || not (is_nil path.names))) ≡ true) document is)

@@ -6,7 +6,7 @@ use Rattle.std.specs.Str.{bytes_eq}
 use Rattle.std.proofs.lemmas.Bool.{cases_Bool, cond-true, cond-false, true≢false}
 use Rattle.std.proofs.lemmas.List.Folds.{find-append}
 use Rattle.std.proofs.lemmas.Slice.Eq.{bytes_eq-Decides}
-use Rattle.rs_rules.proofs.FindLemmas.{find-filter_not, find-filter_other}
+use Rattle.rs_rules.proofs.Cited.{find-filter_not, find-filter_other}
 use Rattle.rs_user.specs.declared.granted.Granted.{Granted}
 use Rattle.rs_user.specs.Grants.{scopes_in, without}
 

@@ -3,8 +3,7 @@ mod FrontLemmas
 mod GrantLemmas
 mod MayLemmas
 mod SpellingLemmas
-pub mod OpeningLemmas
+mod OpeningLemmas
 mod StandingLemmas
 mod StepLemmas
-mod TopLemmas
 mod TurnLemmas

@@ -4,6 +4,7 @@ use Rattle.std.specs.Prelude.{nat_le, is_some, is_none, option_map, find}
 use Rattle.std.proofs.lemmas.Bool.{cases_Bool, cond-false, true≢false, and_parts, and_from}
 use Rattle.std.proofs.lemmas.Bool.Decides.{nat_tests}
 use mathlib.Core.Bool.{beq}
+use Rattle.rs_path.specs.Limits.{max_body}
 use Rattle.rs_path.specs.Paths.{Path, same_path}
 use Rattle.rs_scope.specs.declared.method.Method.{Method}
 use Rattle.rs_scope.specs.declared.method.Method.TheVariants.{Get, Head, Put, Delete}
@@ -20,31 +21,30 @@ use Rattle.rs_rules.specs.Documents.{doc_in}
 use Rattle.rs_rules.specs.Tokens.{scopes_of}
 use Rattle.rs_rules.specs.Requests.{is_short_for}
 use Rattle.rs_rules.specs.Snapshots.{snapshot}
-use Rattle.rs_rules.specs.Answers.{is_put, answer, token_of}
+use Rattle.rs_rules.specs.Answers.{is_put, answer, token_of, put_record}
 use Rattle.rs_rules.specs.Lawful.{may_follow}
 use Rattle.rs_rules.specs.Sound.{are_documents}
-use Rattle.rs_user.specs.Turns.{put_of}
 
-limited : (writer : Option (List ℕ)) (n : ℕ) → nat_le n (body_limit writer) ≡ true → n ≤ 67108864
+limited : (writer : Option (List ℕ)) (n : ℕ) → nat_le n (body_limit writer) ≡ true → n ≤ max_body
 limited None n short = grind (arith, nat_tests)
 limited (Some writer) n short = grind (arith, nat_tests)
 
 -- the body of a Put that stands rightly
 pub put_short : (h : History) (path : Path) (kind body : List ℕ) (writer : Option (List ℕ))
-    → may_follow (snapshot h) (PutRecord path kind body writer) ≡ true → length body ≤ 67108864
+    → may_follow (snapshot h) (PutRecord path kind body writer) ≡ true → length body ≤ max_body
 put_short h path kind body writer may =
     let parts = and_parts (not path.folder) _ may in
     limited writer (length body) (and_parts (nat_le (length body) (body_limit writer)) _ parts.1).0
 
 -- a Put that stands rightly is a record
-pub put_record : (h : History) (call : Call) → has_parts (put_of call) ≡ true → may_follow (snapshot h) (put_of call) ≡ true → is_record (put_of call) ≡ true
-put_record h call parts may =
+pub put_is_record : (h : History) (call : Call) → has_parts (put_record call) ≡ true → may_follow (snapshot h) (put_record call) ≡ true → is_record (put_record call) ≡ true
+put_is_record h call parts may =
     let folder = and_parts (not call.path.folder) _ may in
     let body = and_parts (nat_le (length call.body) (body_limit (token_of call.pass))) _ folder.1 in
-    and_from (has_parts (put_of call)) _ parts (and_from (not call.path.folder) _ folder.0 body.0)
+    and_from (has_parts (put_record call)) _ parts (and_from (not call.path.folder) _ folder.0 body.0)
 
 -- the body of a Put
-pub put_within : (method : Method) (body : List ℕ) → is_short_for method body ≡ true → is_put method ≡ true → length body ≤ 67108864
+pub put_within : (method : Method) (body : List ℕ) → is_short_for method body ≡ true → is_put method ≡ true → length body ≤ max_body
 put_within Get body short put = absurd (true≢false (sym put))
 put_within Head body short put = absurd (true≢false (sym put))
 put_within Put body short put = limited (Some []) (length body) short

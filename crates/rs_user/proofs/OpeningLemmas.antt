@@ -3,19 +3,19 @@ use Rattle.std.proofs.Common.{◌≡◌, ℕ, ◌+◌, zero, suc, ◌≤◌, tru
 use Rattle.std.proofs.lemmas.Bool.{cond-true, cond-false}
 use Rattle.std.proofs.lemmas.Option.{slice_get_within, get_or_from_slice_get}
 use Rattle.std.proofs.lemmas.List.{at_drop_more, map-append}
+use Rattle.rs_path.specs.declared.log_entry.LogEntry.{LogEntry}
 use Rattle.rs_record.specs.declared.record_fault.RecordFault.TheVariants.{Bad}
 use Rattle.rs_record.specs.declared.records.Record.{Record}
 use Rattle.rs_record.specs.Rows.{spelling}
 use Rattle.rs_record.specs.RowReadings.{record_reading}
-use Rattle.rs_rules.specs.declared.log_entry.LogEntry.{LogEntry}
 use Rattle.rs_rules.specs.declared.open_fault.OpenFault.{OpenFault}
 use Rattle.rs_rules.specs.declared.open_fault.OpenFault.TheVariants.{BadRow, Unlawful, KeeperFailed, NoMemory}
 use Rattle.rs_rules.specs.Histories.{History, start, empty_base, with_entry}
 use Rattle.rs_rules.specs.Contents.{Contents}
 use Rattle.rs_user.specs.declared.state.UserState.{UserState}
 use Rattle.rs_user.specs.Standing.{StandsFor}
+use Rattle.rs_user.specs.Openings.{may_be_next, with_reading, if_opened, opening_from, opening, rows_of, by_nobody, Opened, Opens, TakesRow}
 use Rattle.rs_user.proofs.SpellingLemmas.{nobody_more}
-use Rattle.rs_user.specs.Openings.{may_be_next, with_reading, ◌>>=◌, opening_from, opening, rows_of, by_nobody, Opened, Opens, TakesRow}
 
 -- the rows before the index are opened as the history
 pub record IsUnderWay (index : ℕ) (h : History) (kept : List (List ℕ)) : Type 0 where
@@ -37,7 +37,7 @@ left_of kept index row is =
     ∙ ap (λ first. first ∷ drop (index + 1) kept) (get_or_from_slice_get kept index row [] is)
 
 rows_more : (h : History) (what : Record) → rows_of (and_read h what) ≡ rows_of h ++ spelling what ∷ []
-rows_more h what = map-append (λ (e : LogEntry). spelling e.what) h.entries (record { who = 0; what = what } ∷ [])
+rows_more h what = map-append (λ (e : LogEntry Record). spelling e.what) h.entries (record { who = 0; what = what } ∷ [])
 
 pub goes_on : (index : ℕ) (h : History) (kept : List (List ℕ)) (row : List ℕ) (what : Record) → slice_get kept index ≡ Some row
     → record_reading row ≡ Ok what → row ≡ spelling what → may_be_next h what ≡ true → IsUnderWay index h kept
@@ -47,8 +47,8 @@ goes_on index h kept row what found reads spelled may before =
     let begins = left_of kept index row found in
     record {
       left = before.left ∙ ap (opening_from index h) begins
-          ∙ ap (λ reading. with_reading index h reading >>= λ now. opening_from (index + 1) now rest) reads
-          ∙ ap (λ now. now >>= λ after. opening_from (index + 1) after rest) (cond-true (may_be_next h what) (Ok (and_read h what)) (Err (Unlawful index)) may);
+          ∙ ap (λ reading. if_opened (with_reading index h reading) (λ now. opening_from (index + 1) now rest)) reads
+          ∙ ap (λ now. if_opened now (λ after. opening_from (index + 1) after rest)) (cond-true (may_be_next h what) (Ok (and_read h what)) (Err (Unlawful index)) may);
       rows = before.rows ∙ ap (λ more. rows_of h ++ more) (begins ∙ ap (λ first. first ∷ rest) spelled)
           ∙ sym (ap (λ rows. rows ++ rest) (rows_more h what) ∙ append_assoc (rows_of h) (spelling what ∷ []) rest);
       nobody = ap (λ (x : History). and_read x what) before.nobody ∙ nobody_more h 0 what;
@@ -59,15 +59,15 @@ pub is_bad : (index place : ℕ) (h : History) (kept : List (List ℕ)) (row : L
 is_bad index place h kept row found reads before =
     let rest = drop (index + 1) kept in
     before.left ∙ ap (opening_from index h) (left_of kept index row found)
-    ∙ ap (λ reading. with_reading index h reading >>= λ now. opening_from (index + 1) now rest) reads
+    ∙ ap (λ reading. if_opened (with_reading index h reading) (λ now. opening_from (index + 1) now rest)) reads
 
 pub is_unlawful : (index : ℕ) (h : History) (kept : List (List ℕ)) (row : List ℕ) (what : Record) → slice_get kept index ≡ Some row
     → record_reading row ≡ Ok what → may_be_next h what ≡ false → IsUnderWay index h kept → opening kept ≡ Err (Unlawful index)
 is_unlawful index h kept row what found reads may before =
     let rest = drop (index + 1) kept in
     before.left ∙ ap (opening_from index h) (left_of kept index row found)
-    ∙ ap (λ reading. with_reading index h reading >>= λ now. opening_from (index + 1) now rest) reads
-    ∙ ap (λ now. now >>= λ after. opening_from (index + 1) after rest) (cond-false (may_be_next h what) (Ok (and_read h what)) (Err (Unlawful index)) may)
+    ∙ ap (λ reading. if_opened (with_reading index h reading) (λ now. opening_from (index + 1) now rest)) reads
+    ∙ ap (λ now. if_opened now (λ after. opening_from (index + 1) after rest)) (cond-false (may_be_next h what) (Ok (and_read h what)) (Err (Unlawful index)) may)
 
 drop_past : {X : Type 0} (xs : List X) (n : ℕ) → length xs ≤ n → drop n xs ≡ []
 drop_past [] zero past = refl

@@ -4,12 +4,12 @@ use Rattle.std.specs.Prelude.{nat_lt}
 use Rattle.std.proofs.lemmas.List.{map-append}
 use Rattle.std.proofs.lemmas.Bool.{and_from}
 use Rattle.std.proofs.lemmas.Bool.Decides.{nat_tests}
+use Rattle.rs_path.specs.Paths.{Path}
+use Rattle.rs_path.specs.declared.log_entry.LogEntry.{LogEntry}
 use Rattle.rs_face.specs.Rows.{with_rows}
 use Rattle.rs_record.specs.declared.records.Record.{Record}
 use Rattle.rs_record.specs.Rows.{spelling}
 use Rattle.rs_record.specs.RowReadings.{record_reading}
-use Rattle.rs_path.specs.Paths.{Path}
-use Rattle.rs_rules.specs.declared.log_entry.LogEntry.{LogEntry}
 use Rattle.rs_rules.specs.declared.open_fault.OpenFault.{OpenFault}
 use Rattle.rs_rules.specs.declared.open_fault.OpenFault.TheVariants.{Unlawful}
 use Rattle.rs_rules.specs.Limits.{max_len}
@@ -19,16 +19,16 @@ use Rattle.rs_rules.specs.Versions.{writes_below, is_there, last_below, doc_vers
 use Rattle.rs_rules.specs.Tokens.{scopes_of, scopes_after}
 use Rattle.rs_rules.specs.Snapshots.{snapshot}
 use Rattle.rs_rules.specs.Lawful.{may_follow, AllFollow, IsLawful}
-use Rattle.rs_user.specs.Openings.{may_be_next, with_reading, ◌>>=◌, opening_from, rows_of, by_nobody, AreRows, Spells}
+use Rattle.rs_user.specs.Openings.{may_be_next, with_reading, if_opened, opening_from, rows_of, by_nobody, AreRows, AreToldRows}
 
 -- ---- who made the entries isn't looked at
 
-replay_nobody : {S : Type 0} (step : ℕ → Record → S → S) (n : ℕ) (s : S) (es : List LogEntry)
-    → replay step n s (map (λ (e : LogEntry). record { who = 0; what = e.what }) es) ≡ replay step n s es
+replay_nobody : {S : Type 0} (step : ℕ → Record → S → S) (n : ℕ) (s : S) (es : List (LogEntry Record))
+    → replay step n s (map (λ (e : LogEntry Record). record { who = 0; what = e.what }) es) ≡ replay step n s es
 replay_nobody step n s [] = refl
 replay_nobody step n s (e ∷ es) = replay_nobody step (n + 1) (step (n + 1) e.what s) es
 
-length_nobody : (es : List LogEntry) → length {A = LogEntry} (map (λ (e : LogEntry). record { who = 0; what = e.what }) es) ≡ length es
+length_nobody : (es : List (LogEntry Record)) → length {A = LogEntry Record} (map (λ (e : LogEntry Record). record { who = 0; what = e.what }) es) ≡ length es
 length_nobody [] = refl
 length_nobody (e ∷ es) = ap suc (length_nobody es)
 
@@ -52,18 +52,18 @@ snapshot_nobody h =
 pub nobody_more : (h : History) (who : ℕ) (what : Record) → with_entry (by_nobody h) (record { who = 0; what = what }) ≡ by_nobody (with_entry h (record { who = who; what = what }))
 nobody_more h who what =
     ap (λ es. record { base = h.base; entries = es })
-    (sym (map-append (λ (e : LogEntry). record { who = 0; what = e.what }) h.entries (record { who = who; what = what } ∷ [])))
+    (sym (map-append (λ (e : LogEntry Record). record { who = 0; what = e.what }) h.entries (record { who = who; what = what } ∷ [])))
 
 -- ---- a lawful history's last entry may be next
 
-last_follows : (h : History) (es : List LogEntry) (e : LogEntry) → AllFollow h (es ++ e ∷ []) → may_follow (snapshot (with_entries h es)) e.what ≡ true
+last_follows : (h : History) (es : List (LogEntry Record)) (e : LogEntry Record) → AllFollow h (es ++ e ∷ []) → may_follow (snapshot (with_entries h es)) e.what ≡ true
 last_follows h [] e follow =
     subst (λ (x : History). may_follow (snapshot x) e.what ≡ true) (ap (λ es. record { base = h.base; entries = es }) (sym (append-nil h.entries))) follow.0
 last_follows h (x ∷ es) e follow =
-    subst (λ (l : List LogEntry). may_follow (snapshot (record { base = h.base; entries = l })) e.what ≡ true) (append_assoc h.entries (x ∷ []) es)
+    subst (λ (l : List (LogEntry Record)). may_follow (snapshot (record { base = h.base; entries = l })) e.what ≡ true) (append_assoc h.entries (x ∷ []) es)
     (last_follows (with_entry h x) es e follow.1)
 
-last_may_be : (h : History) (e : LogEntry) → IsLawful (with_entry h e) → may_be_next (by_nobody h) e.what ≡ true
+last_may_be : (h : History) (e : LogEntry Record) → IsLawful (with_entry h e) → may_be_next (by_nobody h) e.what ≡ true
 last_may_be h e lawful =
     let may : may_follow (snapshot h) e.what ≡ true = last_follows (start h.base) h.entries e lawful.each in
     let same = snapshot_nobody h in
@@ -79,7 +79,7 @@ history_or other (Ok h) = h
 history_or other (Err fault) = other
 
 bind_more : (f g : History → Result History OpenFault) (first : Result History OpenFault) (now after : History)
-    → ((x : History) → f x ≡ Ok now → g x ≡ Ok after) → first >>= f ≡ Ok now → first >>= g ≡ Ok after
+    → ((x : History) → f x ≡ Ok now → g x ≡ Ok after) → if_opened first f ≡ Ok now → if_opened first g ≡ Ok after
 bind_more f g (Ok x) now after more is = more x is
 bind_more f g (Err fault) now after more is = cc
 
@@ -89,15 +89,15 @@ opening_more : (index : ℕ) (h now : History) (rows : List (List ℕ)) (row : L
 unfolding history_or
 opening_more index h now [] row what is reads may =
     let same : now ≡ h = sym (ap (history_or h) is) in
-    ap (λ reading. with_reading index h reading >>= λ x. opening_from (index + 1) x []) reads
-    ∙ subst (λ (x : History). with_reading index x (Ok what) >>= (λ y. opening_from (index + 1) y []) ≡ Ok (with_entry now (record { who = 0; what = what }))) same
-    (ap (λ b. cond b (Ok (with_entry now (record { who = 0; what = what }))) (Err (Unlawful index)) >>= λ y. opening_from (index + 1) y []) may)
+    ap (λ reading. if_opened (with_reading index h reading) (λ x. opening_from (index + 1) x [])) reads
+    ∙ subst (λ (x : History). if_opened (with_reading index x (Ok what)) (λ y. opening_from (index + 1) y []) ≡ Ok (with_entry now (record { who = 0; what = what }))) same
+    (ap (λ b. if_opened (cond b (Ok (with_entry now (record { who = 0; what = what }))) (Err (Unlawful index))) (λ y. opening_from (index + 1) y [])) may)
 opening_more index h now (first ∷ rows) row what is reads may =
     bind_more (λ x. opening_from (index + 1) x rows) (λ x. opening_from (index + 1) x (rows ++ row ∷ [])) (with_reading index h (record_reading first))
     now (with_entry now (record { who = 0; what = what })) (λ x same. opening_more (index + 1) x now rows row what same reads may) is
 
 rows_more : (h : History) (who : ℕ) (what : Record) → rows_of (with_entry h (record { who = who; what = what })) ≡ rows_of h ++ spelling what ∷ []
-rows_more h who what = map-append (λ (e : LogEntry). spelling e.what) h.entries (record { who = who; what = what } ∷ [])
+rows_more h who what = map-append (λ (e : LogEntry Record). spelling e.what) h.entries (record { who = who; what = what } ∷ [])
 
 -- rows of a history, and the row of one record more, which is read as the record
 are_more : (rows : List (List ℕ)) (h : History) (who : ℕ) (what : Record) → record_reading (spelling what) ≡ Ok what
@@ -110,8 +110,8 @@ are_more rows h who what back lawful are = (
 )
 
 pub spells_more : (old new : Option (List (List ℕ))) (h : History) (who : ℕ) (what : Record) → new ≡ with_rows old (spelling what ∷ [])
-    → record_reading (spelling what) ≡ Ok what → IsLawful (with_entry h (record { who = who; what = what })) → Spells old h
-    → Spells new (with_entry h (record { who = who; what = what }))
-spells_more None new h who what is back lawful spells = subst (λ told. Spells told (with_entry h (record { who = who; what = what }))) (sym is) spells
+    → record_reading (spelling what) ≡ Ok what → IsLawful (with_entry h (record { who = who; what = what })) → AreToldRows old h
+    → AreToldRows new (with_entry h (record { who = who; what = what }))
+spells_more None new h who what is back lawful spells = subst (λ told. AreToldRows told (with_entry h (record { who = who; what = what }))) (sym is) spells
 spells_more (Some rows) new h who what is back lawful spells =
-    subst (λ told. Spells told (with_entry h (record { who = who; what = what }))) (sym is) (are_more rows h who what back lawful spells)
+    subst (λ told. AreToldRows told (with_entry h (record { who = who; what = what }))) (sym is) (are_more rows h who what back lawful spells)

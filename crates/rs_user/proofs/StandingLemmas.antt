@@ -2,9 +2,10 @@
 use Rattle.std.proofs.Common.{◌≡◌, ℕ, ◌+◌, Bool, true, false, cond, refl, List, [], ◌∷◌, arith, sym, ap, ◌∙◌, subst, length-append}
 use Rattle.std.proofs.Math.Path.{fun_ext}
 use Rattle.rs_path.specs.Paths.{Path}
+use Rattle.rs_path.specs.declared.log_entry.LogEntry.{LogEntry}
 use Rattle.rs_scope.specs.declared.scope.Scope.{Scope}
 use Rattle.rs_record.specs.declared.records.Record.TheVariants.{Grant, Revoke}
-use Rattle.rs_rules.specs.declared.log_entry.LogEntry.{LogEntry}
+use Rattle.rs_record.specs.declared.records.Record.{Record}
 use Rattle.rs_rules.specs.Histories.{History, len, with_entry}
 use Rattle.rs_rules.specs.Documents.{docs, doc_in}
 use Rattle.rs_rules.specs.Versions.{folder_version, doc_version, ver}
@@ -31,7 +32,7 @@ contents_revoked n h token = ap (λ version. record { docs = docs h; version = v
 
 module _ {T : Type 0} (tree_stands : T → Contents → Type 0) where
   -- a tree that was given the record's number, which is one more than the length
-  pub tree_more : (tree : T) (n : ℕ) (h : History) (e : LogEntry) → n ≡ len h
+  pub tree_more : (tree : T) (n : ℕ) (h : History) (e : LogEntry Record) → n ≡ len h
       → contents (with_entry h e) ≡ contents_after (len h + 1) e.what (contents h)
       → tree_stands tree (contents_after (n + 1) e.what (contents h)) → tree_stands tree (contents (with_entry h e))
   tree_more tree n h e same step stands =
@@ -48,7 +49,7 @@ module _ {T : Type 0} (tree_stands : T → Contents → Type 0) where
   tree_revoked tree h who token step stands = subst (tree_stands tree) (sym (step ∙ contents_revoked (len h + 1) h token)) stands
 
 module _ {T R : Type 0} (tree_stands : T → Contents → Type 0) where
-  pub stands_more : (state new : UserState T R) (h : History) (e : LogEntry) → StandsFor tree_stands state h → IsLawful (with_entry h e)
+  pub stands_more : (state new : UserState T R) (h : History) (e : LogEntry Record) → StandsFor tree_stands state h → IsLawful (with_entry h e)
       → tree_stands new.tree (contents (with_entry h e))
       → ((token : List ℕ) → scopes_in token new.granted.items ≡ scopes_of (with_entry h e) token)
       → new.len ≡ state.len + 1 → new.cut ≡ state.cut → new.rows ≡ state.rows + 1

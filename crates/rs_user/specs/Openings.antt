@@ -1,11 +1,11 @@
 -- What rows are opened as.
 use Rattle.std.specs.Prelude.{◌≡◌, ℕ, ◌+◌, Bool, true, false, ◌&&◌, nat_lt, List, [], ◌∷◌, map, Option, IfSome, Result, Ok, Err, if◌then◌else◌}
+use Rattle.rs_path.specs.declared.log_entry.LogEntry.{LogEntry}
 use Rattle.rs_record.specs.declared.record_fault.RecordFault.{RecordFault}
 use Rattle.rs_record.specs.declared.record_fault.RecordFault.TheVariants.{Bad, NoMemory as NoMemoryToRead}
 use Rattle.rs_record.specs.declared.records.Record.{Record}
 use Rattle.rs_record.specs.Rows.{spelling}
 use Rattle.rs_record.specs.RowReadings.{record_reading}
-use Rattle.rs_rules.specs.declared.log_entry.LogEntry.{LogEntry}
 use Rattle.rs_rules.specs.declared.open_fault.OpenFault.{OpenFault}
 use Rattle.rs_rules.specs.declared.open_fault.OpenFault.TheVariants.{BadRow, Unlawful, KeeperFailed, NoMemory}
 use Rattle.rs_rules.specs.Limits.{max_len}
@@ -27,17 +27,16 @@ with_reading index h (Ok what) =
 with_reading index h (Err (Bad place)) = Err (BadRow index place)
 with_reading index h (Err NoMemoryToRead) = Err NoMemory
 
--- the `?` of the logic: what follows, if there is no fault
-infixl 10 ◌>>=◌
-abbrev pub ◌>>=◌ : {A B : Type 0} → Result A OpenFault → (A → Result B OpenFault) → Result B OpenFault
-Ok x >>= f = f x
-Err fault >>= f = Err fault
+-- what follows the history, if there is no fault
+abbrev pub if_opened : Result History OpenFault → (History → Result History OpenFault) → Result History OpenFault
+if_opened (Ok h) rest = rest h
+if_opened (Err fault) rest = Err fault
 
 -- the history and the records of more rows, of which the first has the index; the first row that is no record, or whose
 -- record doesn't stand rightly after those before it, is refused
 abbrev pub opening_from : ℕ → History → List (List ℕ) → Result History OpenFault
 opening_from index h [] = Ok h
-opening_from index h (row ∷ rows) = with_reading index h (record_reading row) >>= λ now. opening_from (index + 1) now rows
+opening_from index h (row ∷ rows) = if_opened (with_reading index h (record_reading row)) (λ now. opening_from (index + 1) now rows)
 
 -- the history that rows spell
 abbrev pub opening : List (List ℕ) → Result History OpenFault
@@ -47,19 +46,19 @@ opening rows = opening_from 0 (start empty_base) rows
 
 -- the rows of a history since its cut
 abbrev pub rows_of : History → List (List ℕ)
-rows_of h = map (λ (e : LogEntry). spelling e.what) h.entries
+rows_of h = map (λ (e : LogEntry Record). spelling e.what) h.entries
 
 -- the history, of which isn't known who made its entries
 abbrev pub by_nobody : History → History
-by_nobody h = record { base = h.base; entries = map (λ (e : LogEntry). record { who = 0; what = e.what }) h.entries }
+by_nobody h = record { base = h.base; entries = map (λ (e : LogEntry Record). record { who = 0; what = e.what }) h.entries }
 
 -- the rows are those of the history, and are opened as it
 abbrev pub AreRows : List (List ℕ) → History → Type 0
 AreRows rows h = (rows ≡ rows_of h) × (opening rows ≡ Ok (by_nobody h))
 
 -- the told rows are those of the history
-abbrev pub Spells : Option (List (List ℕ)) → History → Type 0
-Spells told h = IfSome told (λ rows. AreRows rows h)
+abbrev pub AreToldRows : Option (List (List ℕ)) → History → Type 0
+AreToldRows told h = IfSome told (λ rows. AreRows rows h)
 
 module _ {T R : Type 0} (tree_stands : T → Contents → Type 0) where
   -- the state stands for the history that the rows spell

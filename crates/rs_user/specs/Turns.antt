@@ -5,10 +5,8 @@ use Rattle.rs_face.specs.Rows.{with_row, with_rows}
 use Rattle.rs_face.specs.declared.keeper.KeepFault.{KeepFault}
 use Rattle.rs_face.specs.declared.keeper.KeepFault.TheVariants.{Failed, NoMemory as NoMemoryToKeep}
 use Rattle.rs_record.specs.declared.records.Record.{Record}
-use Rattle.rs_record.specs.declared.records.Record.TheVariants.{Put, Remove}
 use Rattle.rs_record.specs.Rows.{spelling}
 use Rattle.rs_record.specs.RowReadings.{record_reading}
-use Rattle.rs_rules.specs.declared.call.Call.{Call}
 use Rattle.rs_rules.specs.declared.desk.DeskFault.{DeskFault}
 use Rattle.rs_rules.specs.declared.desk.DeskFault.TheVariants.{NoMemory}
 use Rattle.rs_rules.specs.declared.reply.Reply.{Reply}
@@ -17,18 +15,11 @@ use Rattle.rs_rules.specs.declared.request.Request.{Request}
 use Rattle.rs_rules.specs.declared.turn.Turn.{Turn}
 use Rattle.rs_rules.specs.Histories.{History, len, with_entry, with_entries}
 use Rattle.rs_rules.specs.Contents.{Contents}
-use Rattle.rs_rules.specs.Answers.{answer, taken, entry_of, token_of}
+use Rattle.rs_rules.specs.Answers.{answer, taken, entry_of}
 use Rattle.rs_rules.specs.Growth.{is_store_failed}
 use Rattle.rs_user.specs.declared.state.UserState.{UserState}
 use Rattle.rs_user.specs.Standing.{StandsFor}
-use Rattle.rs_user.specs.Openings.{Spells}
-
--- the record of a Put and of a Delete
-abbrev pub put_of : Call → Record
-put_of c = Put c.path c.kind c.body (token_of c.pass)
-
-abbrev pub remove_of : Call → Record
-remove_of c = Remove c.path (token_of c.pass)
+use Rattle.rs_user.specs.Openings.{AreToldRows}
 
 -- a fault of the keeper is told as StoreFailed, want of memory as such
 abbrev pub TellsFault : KeepFault → Result Turn DeskFault → Type 0
@@ -49,12 +40,12 @@ module _ {T R : Type 0} (tree_stands : T → Contents → Type 0) where
     pub rows : new ≡ old
 
   -- nothing was kept, and the keeper's count of faults rose
-  pub record NotKept (state : UserState T R) (h : History) (old new : Option (List (List ℕ))) (before now : ℕ) : Type 0 where
+  pub record KeptNothing (state : UserState T R) (h : History) (old new : Option (List (List ℕ))) (before now : ℕ) : Type 0 where
     pub still : IsStill state h old new
     pub rose : Rose before now
 
   -- the record was kept: the state stands for the history and this record, the told rows have its row behind the others
-  pub record Kept (state : UserState T R) (h : History) (who : ℕ) (what : Record) (told : Reply) (turn : Turn)
+  pub record RecordKept (state : UserState T R) (h : History) (who : ℕ) (what : Record) (told : Reply) (turn : Turn)
       (old new : Option (List (List ℕ))) : Type 0 where
     pub reply : turn.reply ≡ told
     pub front : turn.front ≡ len h
@@ -63,8 +54,8 @@ module _ {T R : Type 0} (tree_stands : T → Contents → Type 0) where
     pub back : record_reading (spelling what) ≡ Ok what
 
   abbrev pub KeepsBy : Bool → UserState T R → History → ℕ → Record → Reply → Turn → Option (List (List ℕ)) → Option (List (List ℕ)) → ℕ → ℕ → Type 0
-  KeepsBy true state h who what reply turn old new before now = NotKept state h old new before now
-  KeepsBy false state h who what reply turn old new before now = Kept state h who what reply turn old new
+  KeepsBy true state h who what reply turn old new before now = KeptNothing state h old new before now
+  KeepsBy false state h who what reply turn old new before now = RecordKept state h who what reply turn old new
 
   -- a record was to be kept, and the reply told where it is
   abbrev pub Keeps : UserState T R → History → ℕ → Record → Reply → Result Turn DeskFault → Option (List (List ℕ)) → Option (List (List ℕ)) → ℕ → ℕ → Type 0
@@ -81,14 +72,14 @@ module _ {T R : Type 0} (tree_stands : T → Contents → Type 0) where
     pub front : turn.front ≡ len h
     pub stands : StandsFor tree_stands state (with_entries h (entry_of who (taken h quota r)))
     pub rows : new ≡ with_rows old (row_of (taken h quota r))
-    pub spells : Spells old h → Spells new (with_entries h (entry_of who (taken h quota r)))
+    pub spells : AreToldRows old h → AreToldRows new (with_entries h (entry_of who (taken h quota r)))
 
   abbrev pub AnswersBy : Bool → UserState T R → History → ℕ → ℕ → Request → Turn → Option (List (List ℕ)) → Option (List (List ℕ)) → ℕ → ℕ → Type 0
-  AnswersBy true state h quota who r turn old new before now = NotKept state h old new before now
+  AnswersBy true state h quota who r turn old new before now = KeptNothing state h old new before now
   AnswersBy false state h quota who r turn old new before now = Answered state h quota who r turn old new
 
   -- what a turn has done
-  abbrev pub Turns : UserState T R → History → ℕ → ℕ → Request → Result Turn DeskFault → Option (List (List ℕ)) → Option (List (List ℕ)) → ℕ → ℕ → Type 0
-  Turns state h quota who r (Err NoMemory) old new before now = IsStill state h old new
-  Turns state h quota who r (Ok turn) old new before now =
+  abbrev pub StateTurned : UserState T R → History → ℕ → ℕ → Request → Result Turn DeskFault → Option (List (List ℕ)) → Option (List (List ℕ)) → ℕ → ℕ → Type 0
+  StateTurned state h quota who r (Err NoMemory) old new before now = IsStill state h old new
+  StateTurned state h quota who r (Ok turn) old new before now =
       AnswersBy (is_store_failed turn.reply) state h quota who r turn old new before now

@@ -1,7 +1,7 @@
 //! Conditions on the version.
 
 ghost use Rattle.std.specs.Prelude.{◌≡◌};
-ghost use Rattle.rs_rules.specs.Conditions.{lists_strong, lists_weak, meets, is_named};
+ghost use Rattle.rs_rules.specs.Conditions.{lists_strong, lists_weak, meets, excludes};
 
 use itoa::Buffer;
 use rs_rules::{Cond, EntityTag};
@@ -18,8 +18,8 @@ pub(crate) fn meets(if_match: &Cond, there: bool, version: u64) -> bool
 }
 
 /// Whether If-None-Match names what is there and has the version (RFC 9110, section 13.1.2).
-pub(crate) fn is_named(if_none: &Cond, there: bool, version: u64) -> bool
-    ensures named { result ≡ is_named if_none.now there version }
+pub(crate) fn excludes(if_none: &Cond, there: bool, version: u64) -> bool
+    ensures named { result ≡ excludes if_none.now there version }
 {
     match if_none {
         Cond::Missing => false,

@@ -4,7 +4,7 @@ ghost use Rattle.std.specs.Prelude.{◌≡◌, ◌+◌, ◌<◌, ◌^◌, ℕ, t
 ghost use Rattle.rs_rules.specs.Documents.{live_in};
 ghost use Rattle.rs_rules.specs.Snapshots.{Snapshot};
 ghost use Rattle.rs_rules.specs.Answers.{is_put, answer_call_in, last_step, shown};
-ghost use Rattle.rs_user.specs.Decisions.{Decides};
+ghost use Rattle.rs_user.specs.Decisions.{DecisionAgrees};
 ghost use Rattle.rs_user.specs.Standing.{Shows};
 
 use crate::access::refused_access;
@@ -27,10 +27,10 @@ pub(crate) enum Decision {
 }
 
 impl<T: Tree> UserState<T> {
-    /// Decides a request by the first step that applies.
+    /// DecisionAgrees a request by the first step that applies.
     pub(crate) fn decide(&self, call: &Call) -> Result<Decision, NoMemory>
         requires room { (s : Snapshot) × Shows T.stands self.now s × (is_put call.now.method ≡ true → live_in s.contents.docs + length call.now.body < 2 ^ 64) }
-        ensures decided { (s : Snapshot) → Shows T.stands self.now s → IfOk result (Decides s call.now (answer_call_in s self.now.quota call.now)) }
+        ensures decided { (s : Snapshot) → Shows T.stands self.now s → IfOk result (DecisionAgrees s call.now (answer_call_in s self.now.quota call.now)) }
     {
         if let Some(reply) = refused_access(self.granted.as_slice(), call) {
             return Ok(Decision::Answer(reply));
@@ -48,7 +48,7 @@ impl<T: Tree> UserState<T> {
 // Steps 13 to 15.
 fn last<T: Tree>(tree: &T, call: &Call) -> Result<Decision, NoMemory>
     requires stands { (s : Snapshot) × T.stands tree.now s.contents }
-    ensures last { (s : Snapshot) → T.stands tree.now s.contents → IfOk result (Decides s call.now (last_step s call.now call.now.method)) }
+    ensures last { (s : Snapshot) → T.stands tree.now s.contents → IfOk result (DecisionAgrees s call.now (last_step s call.now call.now.method)) }
 {
     match call.method {
         Method::Get | Method::Head => Ok(Decision::Answer(shown(tree, &call.path)?)),

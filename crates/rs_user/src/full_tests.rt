@@ -1,20 +1,16 @@
-//! Turns where there is no room: for one more record, and for one more item of a folder.
+//! Turns at the greatest number of records, on a state that no run could reach.
 
-ghost use Rattle.std.specs.Prelude.{◌≡◌, ◌+◌, ◌<◌, ◌≤◌, true, false, length, IfOk, OnOk};
+ghost use Rattle.std.specs.Prelude.{◌≡◌, true, IfOk};
 ghost use Rattle.rs_rules.specs.Histories.{History};
-ghost use Rattle.rs_rules.specs.Requests.{is_within_limit};
-ghost use Rattle.rs_user.specs.FullTests.{HasTop};
+ghost use Rattle.rs_rules.specs.Requests.{is_short_for, is_within_limit};
 ghost use Rattle.rs_user.specs.Standing.{StandsFor};
 
-use crate::limits::MAX_LEN;
-use crate::tests::{GRANT, PUT, body_of, check, expect, keeper_of, owner, plain_text, stranger};
 use crate::{SoloDesk, UserState};
-use rs_face::{KeepFault, Keeper};
-use rs_path::{Bytes, Kind, Path, Tag};
-use rs_plain::{PlainTree, children_law};
-use rs_record::Record;
-use rs_rules::{Desk, Request, Tree, lawful_laws, step_laws};
-use rs_scope::{Scopes, Token};
+use rs_face::{KeepFault, Keeper, MemKeeper};
+use rs_path::{Bytes, Kind, Path};
+use rs_plain::PlainTree;
+use rs_rules::{Call, Cond, Desk, MAX_LEN, Pass, Reply, Request, Tree, lawful_laws, step_laws};
+use rs_scope::{Method, Scopes, Token};
 use std::alloc::Global;
 use std::process::Abort;
 use std::test::Fail;
@@ -72,147 +68,212 @@ fn filled<T: Tree>(state: UserState<T>, token: &Token) -> Result<UserState<T>, F
     Ok(state)
 }
 
-// The token reaches `notes:rw`, and the quota is 6 bytes. The first record is the last.
-const LAST: &str = r#"
-PUT    | /notes/x   | owner    |              |              | hallo   | Stored 4294967295 replaced
-PUT    | /notes/x   | owner    |              |              | hello   | RecordsFull
-PUT    | /notes/x   | owner    |              |              | hello!! | RecordsFull
-PUT    | /notes/y   | owner    |              |              |         | RecordsFull
-DELETE | /notes/x   | owner    |              |              |         | RecordsFull
-DELETE | /notes/x   | owner    | "4294967295" |              |         | RecordsFull
-PUT    | /notes/x   | owner    | "2"          |              | hello   | Unmet
-DELETE | /notes/x   | owner    |              | "4294967295" |         | Unmet
-DELETE | /notes/y   | owner    |              |              |         | Absent
-PUT    | /notes/x/y | owner    |              |              | hello   | Clash /notes/x
-PUT    | /other/x   | owner    |              |              | hello   | Forbidden
-PUT    | /notes/x   | stranger |              |              | hello   | BadToken
-GET    | /notes/x   | owner    |              | "4294967295" |         | Same 4294967295
-GET    | /notes/    | owner    |              |              |         | Folder 4294967295, x 4294967295 text/plain 5
-"#;
+fn owner() -> Token {
+    Token::of_words(1, 1)
+}
 
-// A desk of a user whose records are as many as there may be: nothing is granted, and nothing taken away.
-fn no_grant_is_taken<D: Desk>(rt: &impl Abort, alloc: Global, desk: &mut D) -> Result<(), Fail>
+fn stranger() -> Token {
+    Token::of_words(1, 2)
+}
+
+// A request of the owner's, without conditions.
+fn asked(alloc: Global, method: Method, path: &str, body: &str) -> Result<Call, Fail>
+    ensures short { IfOk result (λ call. is_short_for call.method call.body ≡ true) }
+{
+    if 100 < body.len() {
+        Err("a long body")?;
+    }
+    Ok(Call {
+        method,
+        path: Path::read_plain(alloc, path.as_bytes())?,
+        pass: Pass::Known(owner()),
+        if_match: Cond::Missing,
+        if_none: Cond::Missing,
+        kind: Kind::read(alloc, b"text/plain")?.ok_or("no content type")?,
+        body: Bytes::of(body.as_bytes().to_vec(alloc)?),
+    })
+}
+
+fn put(alloc: Global, path: &str, body: &str) -> Result<Call, Fail>
+    ensures short { IfOk result (λ call. is_short_for call.method call.body ≡ true) }
+{
+    asked(alloc, Method::Put, path, body)
+}
+
+fn delete(alloc: Global, path: &str) -> Result<Call, Fail>
+    ensures short { IfOk result (λ call. is_short_for call.method call.body ≡ true) }
+{
+    asked(alloc, Method::Delete, path, "")
+}
+
+// The reply to a storage request.
+fn answer<D: Desk>(desk: &mut D, call: Call) -> Result<Reply, Fail>
+    requires served { D.serves desk.old 0 }
+    requires short { is_short_for call.method call.body ≡ true }
+    ensures served { D.serves desk.new 0 }
+{
+    reply_to(desk, &Request::Store(call))
+}
+
+fn reply_to<D: Desk>(desk: &mut D, request: &Request) -> Result<Reply, Fail>
+    requires served { D.serves desk.old 0 }
+    requires short { is_within_limit request.now ≡ true }
+    ensures served { D.serves desk.new 0 }
+{
+    match desk.turn(0, request) {
+        Ok(turn) => Ok(turn.reply),
+        Err(_) => Err("no memory")?,
+    }
+}
+
+// The last record is a Put, and then there is room for none.
+fn the_last_record<D: Desk>(rt: &impl Abort, alloc: Global, desk: &mut D) -> Result<(), Fail>
     requires served { D.serves desk.old 0 }
     ensures served { D.serves desk.new 0 }
 {
-    let again = grant_of(alloc, owner(), b"notes:rw")?;
-    expect(rt, alloc, desk, &again, b"RecordsFull")?;
-    let other = grant_of(alloc, stranger(), b"notes:rw")?;
-    expect(rt, alloc, desk, &other, b"RecordsFull")?;
-    let known = Request::Revoke { token: owner() };
-    expect(rt, alloc, desk, &known, b"RecordsFull")?;
-    let unknown = Request::Revoke { token: stranger() };
-    expect(rt, alloc, desk, &unknown, b"NotGranted")
+    let last = answer(desk, put(alloc, "/notes/x", "hallo")?)?;
+    assert!(rt;
+        matches!(
+            &last,
+            Reply::Stored {
+                version: 4_294_967_295,
+                created: false
+            }
+        )
+    );
+    let again = answer(desk, put(alloc, "/notes/x", "hello")?)?;
+    assert!(rt; matches!(&again, Reply::RecordsFull));
+    let over = answer(desk, put(alloc, "/notes/x", "hello!!")?)?;
+    assert!(rt; matches!(&over, Reply::RecordsFull));
+    let created = answer(desk, put(alloc, "/notes/y", "")?)?;
+    assert!(rt; matches!(&created, Reply::RecordsFull));
+    let removed = answer(desk, delete(alloc, "/notes/x")?)?;
+    assert!(rt; matches!(&removed, Reply::RecordsFull));
+    Ok(())
 }
 
-fn grant_of(alloc: Global, token: Token, scopes: &[u8]) -> Result<Request, Fail>
+// Steps that come before the room for a record.
+fn earlier_steps<D: Desk>(rt: &impl Abort, alloc: Global, desk: &mut D) -> Result<(), Fail>
+    requires served { D.serves desk.old 0 }
+    ensures served { D.serves desk.new 0 }
+{
+    let absent = answer(desk, delete(alloc, "/notes/y")?)?;
+    assert!(rt; matches!(&absent, Reply::Absent));
+    let forbidden = answer(desk, put(alloc, "/other/x", "hello")?)?;
+    assert!(rt; matches!(&forbidden, Reply::Forbidden));
+    let mut by_stranger = put(alloc, "/notes/x", "hello")?;
+    by_stranger.pass = Pass::Known(stranger());
+    let unknown = answer(desk, by_stranger)?;
+    assert!(rt; matches!(&unknown, Reply::BadToken));
+    let clash = answer(desk, put(alloc, "/notes/x/y", "hello")?)?;
+    let above = Path::read_plain(alloc, b"/notes/x")?;
+    assert!(rt; matches!(&clash, Reply::Clash { path } if *path == above));
+    Ok(())
+}
+
+// Conditions on the version that the last record has given.
+fn conditions<D: Desk>(rt: &impl Abort, alloc: Global, desk: &mut D) -> Result<(), Fail>
+    requires served { D.serves desk.old 0 }
+    ensures served { D.serves desk.new 0 }
+{
+    let mut older = put(alloc, "/notes/x", "hello")?;
+    older.if_match = Cond::read(alloc, b"\"2\"")?;
+    let unmet = answer(desk, older)?;
+    assert!(rt; matches!(&unmet, Reply::Unmet));
+    let mut present = delete(alloc, "/notes/x")?;
+    present.if_match = Cond::read(alloc, b"\"4294967295\"")?;
+    let met = answer(desk, present)?;
+    assert!(rt; matches!(&met, Reply::RecordsFull));
+    let mut none = delete(alloc, "/notes/x")?;
+    none.if_none = Cond::read(alloc, b"\"4294967295\"")?;
+    let excluded = answer(desk, none)?;
+    assert!(rt; matches!(&excluded, Reply::Unmet));
+    Ok(())
+}
+
+// What is read: the document is as it was, and so is its folder.
+fn readings<D: Desk>(rt: &impl Abort, alloc: Global, desk: &mut D) -> Result<(), Fail>
+    requires served { D.serves desk.old 0 }
+    ensures served { D.serves desk.new 0 }
+{
+    let mut present = asked(alloc, Method::Get, "/notes/x", "")?;
+    present.if_none = Cond::read(alloc, b"\"4294967295\"")?;
+    let same = answer(desk, present)?;
+    assert!(rt;
+        matches!(
+            &same,
+            Reply::Same {
+                version: 4_294_967_295
+            }
+        )
+    );
+    let listing = answer(desk, asked(alloc, Method::Get, "/notes/", "")?)?;
+    let Reply::Folder { version, items } = &listing else {
+        return Err("no folder")?;
+    };
+    assert_eq!(rt; *version, 4_294_967_295);
+    assert_eq!(rt; items.as_slice().len(), 1);
+    let item = items.as_slice().first().ok_or("no item")?;
+    assert_eq!(rt; item.name.as_slice(), b"x".as_slice());
+    assert_eq!(rt; item.tag.as_slice(), b"4294967295".as_slice());
+    assert_eq!(rt; item.length, Some(5));
+    Ok(())
+}
+
+fn grant_of(alloc: Global, token: Token) -> Result<Request, Fail>
     ensures short { IfOk result (λ request. is_within_limit request ≡ true) }
 {
     Ok(Request::Grant {
         token,
-        scopes: Scopes::read(alloc, scopes)?,
+        scopes: Scopes::read(alloc, b"notes:rw")?,
     })
+}
+
+// Nothing is granted, and nothing taken away.
+fn no_grant<D: Desk>(rt: &impl Abort, alloc: Global, desk: &mut D) -> Result<(), Fail>
+    requires served { D.serves desk.old 0 }
+    ensures served { D.serves desk.new 0 }
+{
+    let again = reply_to(desk, &grant_of(alloc, owner())?)?;
+    assert!(rt; matches!(&again, Reply::RecordsFull));
+    let other = reply_to(desk, &grant_of(alloc, stranger())?)?;
+    assert!(rt; matches!(&other, Reply::RecordsFull));
+    let known = reply_to(desk, &Request::Revoke { token: owner() })?;
+    assert!(rt; matches!(&known, Reply::RecordsFull));
+    let unknown = reply_to(desk, &Request::Revoke { token: stranger() })?;
+    assert!(rt; matches!(&unknown, Reply::NotGranted));
+    Ok(())
+}
+
+// The state of a grant and of a document of five bytes, under a quota of six.
+fn begun(alloc: Global) -> Result<UserState<PlainTree>, Fail>
+    ensures stands { IfOk result (λ state. (h : History) × StandsFor ⟦<PlainTree as Tree>⟧.stands state h) }
+{
+    let mut keeper = MemKeeper::new(Vec::new(alloc), Vec::new(alloc));
+    let Ok(mut state) = UserState::<PlainTree>::open(alloc, &mut keeper, 6) else {
+        return Err("rows that aren't opened")?;
+    };
+    let grant = grant_of(alloc, owner())?;
+    let call = put(alloc, "/notes/x", "hello")?;
+    let Ok(_granted) = state.turn(&mut keeper, 1, &grant) else {
+        return Err("no memory")?;
+    };
+    let Ok(_stored) = state.turn(&mut keeper, 1, &Request::Store(call)) else {
+        return Err("no memory")?;
+    };
+    Ok(state)
 }
 
 #[test]
 fn a_full_history_takes_no_record(rt: HostRuntime) -> Result<(), Fail> {
     let alloc = rt.alloc();
-    let mut keeper = keeper_of(alloc, &[GRANT, PUT], Vec::new(alloc))?;
-    let Ok(state) = UserState::<PlainTree>::open(alloc, &mut keeper, 6) else {
-        return Err("rows that aren't opened")?;
-    };
-    let mut state = filled(state, &owner())?;
+    let mut state = filled(begun(alloc)?, &owner())?;
     assert_eq!(rt; state.len(), 4_294_967_294);
-    let mut rows = CountedRows { len: state.rows };
+    let mut rows = CountedRows { len: state.rows() };
     let mut desk = SoloDesk::new(&mut state, &mut rows);
-    assert_eq!(rt; check(&rt, alloc, &mut desk, LAST)?, 14);
-    no_grant_is_taken(&rt, alloc, &mut desk)
-}
-
-// ---- a folder of 50,000 items
-
-// The path of a document directly below `/`, whose name is the number.
-fn path_of(alloc: Global, number: u64) -> Result<Path, Fail>
-    ensures document { IfOk result (λ path. path.folder ≡ false) }
-    ensures top { IfOk result (λ path. length path.names ≡ 1) }
-{
-    let mut text = Vec::from_slice(alloc, b"/")?;
-    text.extend_from_slice(Tag::of(alloc, number)?.as_slice())?;
-    let path = Path::read_plain(alloc, text.as_slice())?;
-    if path.is_folder() || path.depth() != 1 {
-        return Err("no document directly below /")?;
-    }
-    Ok(path)
-}
-
-// Puts a document directly below `/`. That it may be put is known of the documents that are there, and not looked for.
-fn put_top<T: Tree>(
-    state: &mut UserState<T>,
-    number: u64,
-    path: Path,
-    kind: Kind,
-    body: Bytes,
-) -> Result<(), Fail>
-    requires top { (h : History) × StandsFor T.stands state.old h × HasTop h number }
-    requires few { number < 50000 }
-    requires document { path.folder ≡ false }
-    requires one { length path.names ≡ 1 }
-    requires short { length body ≤ 100 }
-    ensures top { OnOk result ((h : History) × StandsFor T.stands state.new h × HasTop h (number + 1)) }
-{
-    step_laws();
-    children_law();
-    state.add(Record::Put {
-        path,
-        kind,
-        body,
-        writer: None,
-    })?;
-    Ok(())
-}
-
-// A state of 50,000 documents of one byte, directly below `/`.
-fn full_folder<T: Tree>(alloc: Global, quota: u64) -> Result<UserState<T>, Fail>
-    ensures stands { IfOk result (λ full. (h : History) × StandsFor T.stands full h) }
-{
-    let mut state = UserState::new(alloc, quota)?;
-    for number in 0..50000 {
-        let path = path_of(alloc, number)?;
-        let body = body_of(alloc, "1")?;
-        put_top(&mut state, number, path, plain_text(alloc)?, body)?;
-    }
-    Ok(state)
-}
-
-// The quota leaves room for one byte more. The first record after the documents is the token's grant.
-const FULL: &str = r#"
-PUT    | /new       | owner    |     |     | 1  | FolderFull /
-PUT    | /new       | owner    |     |     |    | FolderFull /
-PUT    | /new/x     | owner    |     |     | 1  | FolderFull /
-PUT    | /new       | owner    |     |     | 11 | OverQuota 50000
-PUT    | /new       | owner    | *   |     | 1  | Unmet
-PUT    | /0/x       | owner    |     |     | 1  | Clash /0
-PUT    | /new       | stranger |     |     | 1  | BadToken
-PUT    | /49999     | owner    |     |     | 11 | Stored 50002 replaced
-DELETE | /0         | owner    |     |     |    | Removed 1
-PUT    | /new/x     | owner    |     |     |    | Stored 50004 created
-PUT    | /new/y     | owner    |     |     |    | Stored 50005 created
-PUT    | /0         | owner    |     |     |    | FolderFull /
-"#;
-
-fn take_no_item<D: Desk>(rt: &impl Abort, alloc: Global, desk: &mut D) -> Result<(), Fail>
-    requires served { D.serves desk.old 0 }
-{
-    let grant = grant_of(alloc, owner(), b"*:rw")?;
-    expect(rt, alloc, desk, &grant, b"Granted")?;
-    assert_eq!(rt; check(rt, alloc, desk, FULL)?, 12);
-    Ok(())
-}
-
-#[test]
-fn a_full_folder_takes_no_item(rt: HostRuntime) -> Result<(), Fail> {
-    let alloc = rt.alloc();
-    let mut state = full_folder::<PlainTree>(alloc, 50001)?;
-    let mut rows = CountedRows { len: state.rows };
-    take_no_item(&rt, alloc, &mut SoloDesk::new(&mut state, &mut rows))
+    the_last_record(&rt, alloc, &mut desk)?;
+    earlier_steps(&rt, alloc, &mut desk)?;
+    conditions(&rt, alloc, &mut desk)?;
+    readings(&rt, alloc, &mut desk)?;
+    no_grant(&rt, alloc, &mut desk)
 }

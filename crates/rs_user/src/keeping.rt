@@ -7,10 +7,10 @@ ghost use Rattle.rs_rules.specs.declared.reply.Reply.TheVariants.{Stored, Remove
 ghost use Rattle.rs_rules.specs.Limits.{max_len};
 ghost use Rattle.rs_rules.specs.Histories.{History, len};
 ghost use Rattle.rs_rules.specs.Snapshots.{snapshot};
-ghost use Rattle.rs_rules.specs.Answers.{token_of};
+ghost use Rattle.rs_rules.specs.Answers.{token_of, put_record, remove_record};
 ghost use Rattle.rs_rules.specs.Lawful.{may_follow};
 ghost use Rattle.rs_user.specs.Standing.{StandsFor};
-ghost use Rattle.rs_user.specs.Turns.{put_of, remove_of, Keeps, TellsFault};
+ghost use Rattle.rs_user.specs.Turns.{Keeps, TellsFault};
 
 use crate::granted::Granted;
 use crate::state::UserState;
@@ -27,9 +27,9 @@ impl<T: Tree> UserState<T> {
         call: &Call,
         created: bool,
     ) -> Result<Turn, DeskFault>
-        requires may { (h : History) × StandsFor T.stands self.old h × (may_follow (snapshot h) (put_of call.now) ≡ true) × (len h < max_len) }
-        ensures keeps { (h : History) (who : ℕ) → StandsFor T.stands self.old h → may_follow (snapshot h) (put_of call.now) ≡ true → len h < max_len
-            → Keeps T.stands self.new h who (put_of call.now) (Stored (len h + 1) created) result (K.rows keeper.old) (K.rows keeper.new) (K.faults keeper.old) (K.faults keeper.new) }
+        requires may { (h : History) × StandsFor T.stands self.old h × (may_follow (snapshot h) (put_record call.now) ≡ true) × (len h < max_len) }
+        ensures keeps { (h : History) (who : ℕ) → StandsFor T.stands self.old h → may_follow (snapshot h) (put_record call.now) ≡ true → len h < max_len
+            → Keeps T.stands self.new h who (put_record call.now) (Stored (len h + 1) created) result (K.rows keeper.old) (K.rows keeper.new) (K.faults keeper.old) (K.faults keeper.new) }
         ensures later { K.faults keeper.old ≤ K.faults keeper.new }
         ensures count { K.row_count keeper.new + self.old.rows ≡ K.row_count keeper.old + self.new.rows }
         ensures quota { self.new.quota ≡ self.old.quota }
@@ -69,10 +69,10 @@ impl<T: Tree> UserState<T> {
         call: &Call,
         version: u64,
     ) -> Result<Turn, DeskFault>
-        requires may { (h : History) × StandsFor T.stands self.old h × (may_follow (snapshot h) (remove_of call.now) ≡ true) × (len h < max_len) }
+        requires may { (h : History) × StandsFor T.stands self.old h × (may_follow (snapshot h) (remove_record call.now) ≡ true) × (len h < max_len) }
         requires document { call.now.path.folder ≡ false }
-        ensures keeps { (h : History) (who : ℕ) → StandsFor T.stands self.old h → may_follow (snapshot h) (remove_of call.now) ≡ true → len h < max_len
-            → Keeps T.stands self.new h who (remove_of call.now) (Removed version) result (K.rows keeper.old) (K.rows keeper.new) (K.faults keeper.old) (K.faults keeper.new) }
+        ensures keeps { (h : History) (who : ℕ) → StandsFor T.stands self.old h → may_follow (snapshot h) (remove_record call.now) ≡ true → len h < max_len
+            → Keeps T.stands self.new h who (remove_record call.now) (Removed version) result (K.rows keeper.old) (K.rows keeper.new) (K.faults keeper.old) (K.faults keeper.new) }
         ensures later { K.faults keeper.old ≤ K.faults keeper.new }
         ensures count { K.row_count keeper.new + self.old.rows ≡ K.row_count keeper.old + self.new.rows }
         ensures quota { self.new.quota ≡ self.old.quota }
@@ -165,7 +165,7 @@ impl<T: Tree> UserState<T> {
 
 // Reads nothing: it says what the types of a call's parts promise.
 fn look_at(call: &Call)
-    ensures parts { has_parts (put_of call.now) ≡ true }
+    ensures parts { has_parts (put_record call.now) ≡ true }
 {
     call.path.names();
     call.kind.as_slice();

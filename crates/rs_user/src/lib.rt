@@ -16,10 +16,6 @@ mod opening;
 mod place;
 mod solo_desk;
 mod state;
-#[cfg(test)]
-mod tests;
-#[cfg(test)]
-mod turn_cases;
 mod turning;
 
 pub use laws::turn_laws;

@@ -4,16 +4,12 @@ ghost use Rattle.std.specs.Prelude.{◌≡◌, ◌+◌, ◌<◌, ◌^◌, true, 
 ghost use Rattle.rs_rules.specs.Contents.{Contents};
 ghost use Rattle.rs_rules.specs.Documents.{others, live_in};
 ghost use Rattle.rs_rules.specs.Snapshots.{Snapshot};
-ghost use Rattle.rs_rules.specs.Answers.{first_of, is_put, limit_steps, record_of_call};
-ghost use Rattle.rs_user.specs.Decisions.{room_steps};
+ghost use Rattle.rs_rules.specs.Answers.{first_of, is_put, room_steps, limit_steps, record_of_call};
 
 use crate::fronts::folder_front;
 use rs_path::{Bytes, NoMemory, Path};
-use rs_rules::{Call, Reply, Tree, live_laws};
+use rs_rules::{Call, MAX_LEN, Reply, Tree, live_laws};
 use rs_scope::Method;
-
-/// The greatest number of records of a user.
-pub(crate) const MAX_LEN: u64 = 4_294_967_295;
 
 /// The reply to a write that there is no room for, or None where there is.
 pub(crate) fn refused_limit<T: Tree>(
@@ -40,6 +36,7 @@ pub(crate) fn refused_limit<T: Tree>(
 
 // Steps 11 and 12 of a Put.
 fn refused_room<T: Tree>(tree: &T, quota: u64, call: &Call) -> Result<Option<Reply>, NoMemory>
+    requires put { is_put call.now.method ≡ true }
     requires room { (w : Contents) × T.stands tree.now w × (live_in w.docs + length call.now.body < 2 ^ 64) }
     ensures room { (s : Snapshot) → T.stands tree.now s.contents → IfOk result (λ reply. reply ≡ first_of (room_steps s quota call.now)) }
     ensures plain { IfOk result (λ reply. IfSome reply (λ one. record_of_call call.now one ≡ None)) }

@@ -10,12 +10,11 @@ ghost use Rattle.rs_user.specs.Standing.{StandsFor};
 ghost use Rattle.rs_user.specs.Openings.{may_be_next, Opens, TakesRow, TakesRecord};
 
 use crate::granted::{Granted, scopes_in};
-use crate::limits::MAX_LEN;
 use crate::state::UserState;
 use rs_face::{KeepFault, Keeper};
-use rs_path::{NoMemory, Path};
-use rs_record::{MAX_BODY, MAX_PLAIN_BODY, Record, RecordFault, decode};
-use rs_rules::{OpenFault, Tree, lawful_laws};
+use rs_path::{MAX_BODY, MAX_PLAIN_BODY, NoMemory, Path};
+use rs_record::{Record, RecordFault, decode};
+use rs_rules::{MAX_LEN, OpenFault, Tree, lawful_laws};
 use rs_scope::{Method, Token, reaches};
 use std::alloc::Global;
 

@@ -5,10 +5,9 @@ ghost use Rattle.rs_rules.specs.Contents.{Contents};
 ghost use Rattle.rs_rules.specs.Documents.{doc_in};
 ghost use Rattle.rs_rules.specs.Clashes.{clash_in};
 ghost use Rattle.rs_rules.specs.Snapshots.{Snapshot};
-ghost use Rattle.rs_rules.specs.Answers.{first_of, place_steps, is_put, record_of_call};
-ghost use Rattle.rs_user.specs.Decisions.{clash_reply, write_steps, condition_steps};
+ghost use Rattle.rs_rules.specs.Answers.{first_of, clash_reply, write_steps, condition_steps, place_steps, is_put, record_of_call};
 
-use crate::conditions::{is_named, meets};
+use crate::conditions::{excludes, meets};
 use crate::fronts::clash_at;
 use rs_path::{NoMemory, Path};
 use rs_rules::{Call, Reply, Tree};
@@ -75,7 +74,7 @@ fn refused_condition(call: &Call, there: bool, version: u64) -> Option<Reply>
     ensures plain { IfSome result (λ one. record_of_call call.now one ≡ None) }
 {
     let reads = call.method.is_reading();
-    let named = is_named(&call.if_none, there, version);
+    let named = excludes(&call.if_none, there, version);
     if !is_put(call.method) && !there {
         Some(Reply::Absent)
     } else if !meets(&call.if_match, there, version) || !reads && named {

@@ -29,16 +29,14 @@ impl<'a, K: Keeper, T: Tree> SoloDesk<'a, K, T> {
 }
 
 impl<'a, K: Keeper, T: Tree> Desk for SoloDesk<'a, K, T> {
-    ghost use Rattle.std.specs.Prelude.{◌≡◌, true, refl};
-    ghost use Rattle.std.proofs.Common.{◌∙◌};
-    ghost use Rattle.rs_rules.specs.Histories.{History};
-    ghost use Rattle.rs_user.specs.Standing.{StandsFor};
-    ghost use Rattle.rs_user.specs.Openings.{Spells};
+    ghost use Rattle.std.specs.Prelude.{◌≡◌, ℕ, true, refl};
+    ghost use Rattle.std.proofs.Common.{◌∙◌, ap};
+    ghost use Rattle.rs_user.specs.Standing.{StandsFor, SoloServes, IsLaterState, later_itself, later_trans};
+    ghost use Rattle.rs_user.specs.Openings.{AreToldRows};
 
-    ghost serves = { λ desk user. (user ≡ 0) × (K.row_count desk.keeper.now ≡ desk.state.now.rows)
-        × ((h : History) × StandsFor T.stands desk.state.now h) };
+    ghost serves = { λ desk user. SoloServes T.stands K.row_count K.faults desk.state.now desk.keeper.now user };
 
-    ghost stands = { λ desk user h. (user ≡ 0) × StandsFor T.stands desk.state.now h × Spells (K.rows desk.keeper.now) h };
+    ghost stands = { λ desk user h. (user ≡ 0) × StandsFor T.stands desk.state.now h × AreToldRows (K.rows desk.keeper.now) h };
 
     ghost quota = { λ desk user. desk.state.now.quota };
 
@@ -48,11 +46,24 @@ impl<'a, K: Keeper, T: Tree> Desk for SoloDesk<'a, K, T> {
 
     ghost faults = { λ desk. K.faults desk.keeper.now };
 
-    ghost is_later = { λ old new. (new.state.ghost_name ≡ old.state.ghost_name) × (new.keeper.ghost_name ≡ old.keeper.ghost_name) };
+    ghost is_later = { λ old new. (new.state.ghost_name ≡ old.state.ghost_name) × (new.keeper.ghost_name ≡ old.keeper.ghost_name)
+        × IsLaterState T.stands K.row_count K.faults old.state.now old.keeper.now new.state.now new.keeper.now };
 
-    ghost stays = { λ desk. (refl, refl) };
+    ghost stays = { λ desk. (refl, refl, later_itself T.stands K.row_count K.faults desk.state.now desk.keeper.now) };
 
-    ghost goes_on = { λ a b c first second. (second.0 ∙ first.0, second.1 ∙ first.1) };
+    ghost goes_on = { λ a b c first second. (
+      second.0 ∙ first.0,
+      second.1 ∙ first.1,
+      later_trans T.stands K.row_count K.faults a.state.now b.state.now c.state.now a.keeper.now b.keeper.now c.keeper.now first.2 second.2,
+    ) };
+
+    ghost keeps = { λ old new later. record {
+      users = later.2.served;
+      same_quota = ap (λ quota (user : ℕ). quota) later.2.same_quota;
+      same_number = refl;
+      same_alone = refl;
+      later = later.2.no_fewer;
+    } };
 
     fn turn(&mut self, _user: u32, request: &Request) -> Result<Turn, DeskFault> {
         growth_laws();

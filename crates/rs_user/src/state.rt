@@ -1,6 +1,6 @@
 //! A user's state.
 
-ghost use Rattle.std.specs.Prelude.{◌≡◌, is_some, IfOk};
+ghost use Rattle.std.specs.Prelude.{◌≡◌, length, is_some, IfOk};
 ghost use Rattle.rs_rules.specs.Histories.{History, len, start, empty_base};
 ghost use Rattle.rs_rules.specs.Tokens.{scopes_of};
 ghost use Rattle.rs_user.specs.Standing.{StandsFor};
@@ -52,6 +52,21 @@ impl<T: Tree> UserState<T> {
         ensures len { (h : History) → StandsFor T.stands self.now h → result ≡ len h }
     {
         self.len
+    }
+
+    /// The number of records since the cut: of the rows that are kept. It takes no memory.
+    pub fn rows(&self) -> u64
+        ensures rows { (h : History) → StandsFor T.stands self.now h → result ≡ length h.entries }
+        ensures same { result ≡ self.now.rows }
+    {
+        self.rows
+    }
+
+    /// The number of records that were given up. It takes no memory.
+    pub fn cut(&self) -> u64
+        ensures cut { (h : History) → StandsFor T.stands self.now h → result ≡ h.base.cut }
+    {
+        self.cut
     }
 
     /// The tree of the documents.

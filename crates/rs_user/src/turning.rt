@@ -5,14 +5,15 @@ ghost use Rattle.rs_rules.specs.declared.request.Request.TheVariants.{Store, Gra
 ghost use Rattle.rs_rules.specs.Histories.{History};
 ghost use Rattle.rs_rules.specs.Requests.{is_within_limit};
 ghost use Rattle.rs_user.specs.Standing.{StandsFor};
-ghost use Rattle.rs_user.specs.Turns.{Turns};
+ghost use Rattle.rs_user.specs.Turns.{StateTurned};
 
 use crate::decision::Decision;
 use crate::granted::scopes_in;
-use crate::limits::MAX_LEN;
 use crate::state::UserState;
 use rs_face::Keeper;
-use rs_rules::{Call, DeskFault, Reply, Request, Tree, Turn, answer_laws, lawful_laws, taken_laws};
+use rs_rules::{
+    Call, DeskFault, MAX_LEN, Reply, Request, Tree, Turn, answer_laws, lawful_laws, taken_laws,
+};
 use rs_scope::{Scopes, Token};
 
 impl<T: Tree> UserState<T> {
@@ -33,7 +34,7 @@ impl<T: Tree> UserState<T> {
         requires rows { K.row_count keeper.old ≡ self.old.rows }
         requires body { is_within_limit request.now ≡ true }
         ensures turned { (h : History) → StandsFor T.stands self.old h
-            → Turns T.stands self.new h self.old.quota who request.now result (K.rows keeper.old) (K.rows keeper.new) (K.faults keeper.old) (K.faults keeper.new) }
+            → StateTurned T.stands self.new h self.old.quota who request.now result (K.rows keeper.old) (K.rows keeper.new) (K.faults keeper.old) (K.faults keeper.new) }
         ensures stands { (h : History) × StandsFor T.stands self.new h }
         ensures later { K.faults keeper.old ≤ K.faults keeper.new }
         ensures count { K.row_count keeper.new ≡ self.new.rows }
@@ -51,7 +52,7 @@ impl<T: Tree> UserState<T> {
         requires rows { K.row_count keeper.old ≡ self.old.rows }
         requires body { is_within_limit (Store call.now) ≡ true }
         ensures turned { (h : History) (who : ℕ) → StandsFor T.stands self.old h
-            → Turns T.stands self.new h self.old.quota who (Store call.now) result (K.rows keeper.old) (K.rows keeper.new) (K.faults keeper.old) (K.faults keeper.new) }
+            → StateTurned T.stands self.new h self.old.quota who (Store call.now) result (K.rows keeper.old) (K.rows keeper.new) (K.faults keeper.old) (K.faults keeper.new) }
         ensures later { K.faults keeper.old ≤ K.faults keeper.new }
         ensures count { K.row_count keeper.new ≡ self.new.rows }
         ensures quota { self.new.quota ≡ self.old.quota }
@@ -78,7 +79,7 @@ impl<T: Tree> UserState<T> {
         requires stands { (h : History) × StandsFor T.stands self.old h }
         requires rows { K.row_count keeper.old ≡ self.old.rows }
         ensures turned { (h : History) (who : ℕ) → StandsFor T.stands self.old h
-            → Turns T.stands self.new h self.old.quota who (Grant token.now scopes.now) result (K.rows keeper.old) (K.rows keeper.new) (K.faults keeper.old) (K.faults keeper.new) }
+            → StateTurned T.stands self.new h self.old.quota who (Grant token.now scopes.now) result (K.rows keeper.old) (K.rows keeper.new) (K.faults keeper.old) (K.faults keeper.new) }
         ensures later { K.faults keeper.old ≤ K.faults keeper.new }
         ensures count { K.row_count keeper.new ≡ self.new.rows }
         ensures quota { self.new.quota ≡ self.old.quota }
@@ -96,7 +97,7 @@ impl<T: Tree> UserState<T> {
         requires stands { (h : History) × StandsFor T.stands self.old h }
         requires rows { K.row_count keeper.old ≡ self.old.rows }
         ensures turned { (h : History) (who : ℕ) → StandsFor T.stands self.old h
-            → Turns T.stands self.new h self.old.quota who (Revoke token.now) result (K.rows keeper.old) (K.rows keeper.new) (K.faults keeper.old) (K.faults keeper.new) }
+            → StateTurned T.stands self.new h self.old.quota who (Revoke token.now) result (K.rows keeper.old) (K.rows keeper.new) (K.faults keeper.old) (K.faults keeper.new) }
         ensures later { K.faults keeper.old ≤ K.faults keeper.new }
         ensures count { K.row_count keeper.new ≡ self.new.rows }
         ensures quota { self.new.quota ≡ self.old.quota }

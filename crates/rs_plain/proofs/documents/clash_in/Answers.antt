@@ -3,8 +3,8 @@ use Rattle.std.specs.Option.{option_or}
 use Rattle.rs_path.specs.Paths.{Path, folder_at}
 use Rattle.rs_rules.specs.declared.placed.Placed.{Placed}
 use Rattle.rs_rules.specs.Documents.{has_below}
-use Rattle.rs_rules.specs.Clashes.{clash_in, first_document, is_document}
-use Rattle.rs_plain.proofs.DocumentLemmas.{is_document_any}
+use Rattle.rs_rules.specs.Clashes.{clash_in, first_document, has_document}
+use Rattle.rs_plain.proofs.DocumentLemmas.{has_document_any}
 use Rattle.rs_plain.proofs.FrontLemmas.{front_here, front_past}
 use Rattle.rs_plain.proofs.documents.clash_in.Goals as goal
 
@@ -12,16 +12,16 @@ clash_hit : (docs : List Placed) (path : Path) (k : ℕ) → first_document docs
 clash_hit docs path k is = sym (ap (λ o. option_or o (cond (has_below (folder_at path.names) docs) (Some (length path.names)) None)) is)
 
 -- src/documents.rt:71:13
-pub returns-then-is_document : goal.returns-then-is_document
-returns-then-is_document c =
+pub returns-then-has_document : goal.returns-then-has_document
+returns-then-has_document c =
     let docs = c.args.docs.now in
     let names = c.names-names.result.now in
-    let hit : is_document docs (take c.loop-depth.depth names) ≡ true =
-    is_document_any docs (take c.loop-depth.depth names) ∙ sym c.is_document.ensures.document ∙ c.if-is_document.true in
+    let hit : has_document docs (take c.loop-depth.depth names) ≡ true =
+    has_document_any docs (take c.loop-depth.depth names) ∙ sym c.has_document.ensures.document ∙ c.if-has_document.true in
     record {
       clash = clash_hit docs c.args.path.now c.loop-depth.depth
           (ap (first_document docs) (sym c.names-names.ensures.names) ∙ c.loop-depth.invariant
-          ∙ front_here (is_document docs) names c.loop-depth.depth c.loop-depth-test.true hit);
+          ∙ front_here (has_document docs) names c.loop-depth.depth c.loop-depth-test.true hit);
     }
 
 -- src/documents.rt:69:5
@@ -29,6 +29,6 @@ pub loop-depth-preserved : goal.loop-depth-preserved
 loop-depth-preserved c =
     let docs = c.args.docs.now in
     let names = c.names-names.result.now in
-    let clear : is_document docs (take c.loop-depth.depth names) ≡ false =
-    is_document_any docs (take c.loop-depth.depth names) ∙ sym c.is_document.ensures.document ∙ c.if-is_document.false in
-    c.loop-depth.invariant ∙ front_past (is_document docs) names c.loop-depth.depth c.loop-depth-test.true clear
+    let clear : has_document docs (take c.loop-depth.depth names) ≡ false =
+    has_document_any docs (take c.loop-depth.depth names) ∙ sym c.has_document.ensures.document ∙ c.if-has_document.false in
+    c.loop-depth.invariant ∙ front_past (has_document docs) names c.loop-depth.depth c.loop-depth-test.true clear

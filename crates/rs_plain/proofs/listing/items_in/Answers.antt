@@ -6,14 +6,14 @@ use Rattle.rs_path.specs.declared.entry.Entry.{Entry}
 use Rattle.rs_path.specs.Children.{child_cmp}
 use Rattle.rs_path.specs.Items.{comes_before}
 use Rattle.rs_rules.specs.Listings.{item_of}
-use Rattle.rs_plain.specs.PlainTrees.{shown}
+use Rattle.rs_plain.specs.PlainTrees.{contents_in}
 use Rattle.rs_plain.proofs.ItemLemmas.{Named, items_above}
 use Rattle.rs_plain.proofs.listing.items_in.Goals as goal
 
 -- src/listing.rt:30:9
 pub push-requires-clause-above : goal.push-requires-clause-above
 push-requires-clause-above c =
-    let w = shown c.args.docs.now c.args.writes.now in
+    let w = contents_in c.args.docs.now c.args.writes.now in
     let folder = c.args.folder.now in
     let done = c.loop-child.invariant.0 in
     let x = c.in-Some.child.now in
@@ -31,7 +31,7 @@ push-requires-clause-above c =
 -- src/listing.rt:29:5
 pub loop-child-preserved : goal.loop-child-preserved
 loop-child-preserved c =
-    let make = item_of (shown c.args.docs.now c.args.writes.now) c.args.folder.now in
+    let make = item_of (contents_in c.args.docs.now c.args.writes.now) c.args.folder.now in
     let done = c.loop-child.invariant.0 in
     let x = c.in-Some.child.now in (
       done ++ x ∷ [],

@@ -1,7 +1,7 @@
 use Rattle.std.proofs.Common.{◌≡◌, not, [], ◌∷◌, ◌++◌, Some, is_some, position, sym, ap, ◌∙◌}
 use Rattle.std.proofs.lemmas.List.Quantifiers.{position-Some}
 use Rattle.rs_path.specs.Paths.{Path, same_path}
-use Rattle.rs_rules.proofs.DocLemmas.{same_from}
+use Rattle.rs_rules.proofs.Cited.{same_from}
 use Rattle.rs_plain.specs.declared.write.Write.{Write}
 use Rattle.rs_plain.specs.PlainTrees.{other_writes}
 use Rattle.rs_plain.proofs.ListLemmas.{filter_without, has_place}

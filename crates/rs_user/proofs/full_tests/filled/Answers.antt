@@ -6,14 +6,13 @@ use Rattle.rs_rules.specs.Tokens.{scopes_of}
 use Rattle.rs_user.proofs.FillLemmas.{some_of, pairs, stands_on}
 use Rattle.rs_user.proofs.full_tests.filled.Goals as goal
 
--- src/full_tests.rt:50:1
 pub returns : goal.returns
 returns g c =
     let state = c.args.state in
     let stands = c.requires.stands in
     let h = stands.0 in
     let token = c.args.token.now in
-    let n = (4294967295 - state.len) / 2 in
+    let n = (max_len - state.len) / 2 in
     let granted : is_some (scopes_of h token) ≡ true = sym (c.granted.ensures.granted h stands.1) ∙ c.if-not-granted.false in
     let scopes = some_of (scopes_of h token) granted in
     let few : len h ≤ max_len = stands.1.lawful.few in

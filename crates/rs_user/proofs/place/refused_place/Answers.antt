@@ -2,8 +2,7 @@ use Rattle.std.proofs.Common.{◌≡◌, true, cond, None, sym, ap, ◌∙◌}
 use Rattle.std.specs.Prelude.{is_some}
 use Rattle.std.specs.Option.{option_or}
 use Rattle.rs_rules.specs.Documents.{doc_in}
-use Rattle.rs_rules.specs.Answers.{first_of}
-use Rattle.rs_user.specs.Decisions.{write_steps, condition_steps}
+use Rattle.rs_rules.specs.Answers.{first_of, write_steps, condition_steps}
 use Rattle.rs_user.proofs.StepLemmas.{first_of_append, none_unless}
 use Rattle.rs_user.proofs.place.refused_place.Goals as goal
 

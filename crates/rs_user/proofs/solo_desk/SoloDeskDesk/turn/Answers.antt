@@ -1,4 +1,4 @@
-use Rattle.std.proofs.Common.{ℕ, ap}
+use Rattle.std.proofs.Common.{refl}
 use Rattle.rs_user.proofs.TurnLemmas.{sits}
 use Rattle.rs_user.proofs.solo_desk.SoloDeskDesk.turn.Goals as goal
 
@@ -9,8 +9,13 @@ returns-clause-turned g c h stands =
     sits g.T.Tree.stands c.turn.new.self h quota c.args._user c.args.request.now c.turn.result _ _ _ _ stands.0 stands.2
     (c.turn.ensures.turned h stands.1) (c.growth_laws.ensures.still h 1) (c.growth_laws.ensures.alone h quota 1 c.args.request.now)
 
-pub returns-clause-users : goal.returns-clause-users
-returns-clause-users g c other serves = (serves.0, c.turn.ensures.count, c.turn.ensures.stands)
-
-pub returns-clause-same_quota : goal.returns-clause-same_quota
-returns-clause-same_quota g c = ap (λ quota (user : ℕ). quota) c.turn.ensures.quota
+pub returns-clause-is_later : goal.returns-clause-is_later
+returns-clause-is_later g c = (
+  refl,
+  refl,
+  record {
+    served = λ user served. (served.0, c.turn.ensures.count, c.turn.ensures.stands);
+    same_quota = c.turn.ensures.quota;
+    no_fewer = c.turn.ensures.later;
+  },
+)

@@ -2,9 +2,8 @@ use Rattle.std.proofs.Common.{◌≡◌, Ok, rules}
 use Rattle.rs_record.specs.Rows.{spelling}
 use Rattle.rs_record.specs.RowReadings.{record_reading}
 use Rattle.rs_rules.specs.Contents.{contents}
-use Rattle.rs_rules.specs.Answers.{token_of}
-use Rattle.rs_user.specs.Turns.{put_of}
-use Rattle.rs_user.proofs.MayLemmas.{put_short, put_record}
+use Rattle.rs_rules.specs.Answers.{token_of, put_record}
+use Rattle.rs_user.proofs.MayLemmas.{put_short, put_is_record}
 use Rattle.rs_user.proofs.state.UserState.keep_put.Goals as goal
 
 pub prepare-requires-clause-room : goal.prepare-requires-clause-room
@@ -19,5 +18,5 @@ prepare-requires-clause-room g c =
 pub returns-in-Ok-clause-keeps : goal.returns-in-Ok-clause-keeps
 returns-in-Ok-clause-keeps g c h who stands may few =
     let call = c.args.call.now in
-    let back : record_reading (spelling (put_of call)) ≡ Ok (put_of call) = c.row_laws.ensures.back (put_of call) (put_record h call c.look_at.ensures.parts may) in
+    let back : record_reading (spelling (put_record call)) ≡ Ok (put_record call) = c.row_laws.ensures.back (put_record call) (put_is_record h call c.look_at.ensures.parts may) in
     search (rules, back)

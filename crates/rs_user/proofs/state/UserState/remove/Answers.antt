@@ -1,13 +1,14 @@
 use Rattle.std.proofs.Common.{refl, sym, ◌∙◌}
+use Rattle.rs_path.specs.declared.log_entry.LogEntry.{LogEntry}
 use Rattle.rs_record.specs.declared.records.Record.TheVariants.{Remove as RemoveRecord}
+use Rattle.rs_record.specs.declared.records.Record.{Record}
 use Rattle.rs_rules.specs.Contents.{contents}
-use Rattle.rs_rules.specs.declared.log_entry.LogEntry.{LogEntry}
 use Rattle.rs_user.proofs.StandingLemmas.{tree_more, stands_more}
 use Rattle.rs_user.proofs.state.UserState.remove.Goals as goal
 
 pub returns-clause-removed : goal.returns-clause-removed
 returns-clause-removed g c h who writer s may room =
-    let e : LogEntry = record { who = who; what = RemoveRecord c.args.path.now writer } in
+    let e : LogEntry Record = record { who = who; what = RemoveRecord c.args.path.now writer } in
     let lawful = c.lawful_laws.ensures.more h e s.lawful may room in
     let gone = c.remove.ensures.removed (contents h) writer s.shows.tree in
     stands_more g.T.Tree.stands c.args.self.now _ h e s lawful

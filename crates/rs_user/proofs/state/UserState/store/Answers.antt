@@ -7,10 +7,9 @@ use Rattle.rs_rules.specs.declared.request.Request.TheVariants.{Store}
 use Rattle.rs_rules.specs.Histories.{len}
 use Rattle.rs_rules.specs.Documents.{docs}
 use Rattle.rs_rules.specs.Snapshots.{Snapshot, snapshot}
-use Rattle.rs_rules.specs.Answers.{answer, taken, record_of_call}
+use Rattle.rs_rules.specs.Answers.{answer, taken, put_record, remove_record, record_of_call}
 use Rattle.rs_user.specs.declared.decision.Decision.{Decision}
-use Rattle.rs_user.specs.Decisions.{Decides}
-use Rattle.rs_user.specs.Turns.{put_of, remove_of}
+use Rattle.rs_user.specs.Decisions.{DecisionAgrees}
 use Rattle.rs_user.proofs.MayLemmas.{put_within, document_there}
 use Rattle.rs_user.proofs.TurnLemmas.{kept_turns, still_turns}
 use Rattle.rs_user.proofs.state.UserState.store.Goals as goal
@@ -24,8 +23,8 @@ decide-requires g c =
     }
 
 -- the decision, as it turned out
-told : (s : Snapshot) (c : Call) (answer : Reply) (decision other : Decision) → decision ≡ other → Decides s c answer decision → Decides s c answer other
-told s c answer decision other is decides = subst (Decides s c answer) is decides
+told : (s : Snapshot) (c : Call) (answer : Reply) (decision other : Decision) → decision ≡ other → DecisionAgrees s c answer decision → DecisionAgrees s c answer other
+told s c answer decision other is decides = subst (DecisionAgrees s c answer) is decides
 
 pub keep_put-requires : goal.keep_put-requires
 keep_put-requires g c =
@@ -34,13 +33,13 @@ keep_put-requires g c =
     let call = c.args.call.now in
     let quota = c.args.self.now.quota in
     let is = told (snapshot h) call _ _ _ c.in-Put.is (c.in_ok-reply.ensures.decided (snapshot h) stands.1.shows) in
-    let adds : taken h quota (Store call) ≡ Some (put_of call) = ap (record_of_call call) is in
+    let adds : taken h quota (Store call) ≡ Some (put_record call) = ap (record_of_call call) is in
     record {
       may = (
         h,
         stands.1,
-        c.taken_laws.ensures.may h quota (Store call) (put_of call) c.requires.body adds,
-        c.taken_laws.ensures.room h quota (Store call) (put_of call) adds,
+        c.taken_laws.ensures.may h quota (Store call) (put_record call) c.requires.body adds,
+        c.taken_laws.ensures.room h quota (Store call) (put_record call) adds,
       );
     }
 
@@ -51,11 +50,11 @@ keep_remove-requires-clause-may g c =
     let call = c.args.call.now in
     let quota = c.args.self.now.quota in
     let is = told (snapshot h) call _ _ _ c.in-Remove.is (c.in_ok-reply.ensures.decided (snapshot h) stands.1.shows) in
-    let adds : taken h quota (Store call) ≡ Some (remove_of call) = ap (record_of_call call) is in (
+    let adds : taken h quota (Store call) ≡ Some (remove_record call) = ap (record_of_call call) is in (
       h,
       stands.1,
-      c.taken_laws.ensures.may h quota (Store call) (remove_of call) c.requires.body adds,
-      c.taken_laws.ensures.room h quota (Store call) (remove_of call) adds,
+      c.taken_laws.ensures.may h quota (Store call) (remove_record call) c.requires.body adds,
+      c.taken_laws.ensures.room h quota (Store call) (remove_record call) adds,
     )
 
 pub keep_remove-requires-clause-document : goal.keep_remove-requires-clause-document
@@ -65,8 +64,8 @@ keep_remove-requires-clause-document g c =
     let call = c.args.call.now in
     let quota = c.args.self.now.quota in
     let is = told (snapshot h) call _ _ _ c.in-Remove.is (c.in_ok-reply.ensures.decided (snapshot h) stands.1.shows) in
-    let adds : taken h quota (Store call) ≡ Some (remove_of call) = ap (record_of_call call) is in
-    let may = c.taken_laws.ensures.may h quota (Store call) (remove_of call) c.requires.body adds in
+    let adds : taken h quota (Store call) ≡ Some (remove_record call) = ap (record_of_call call) is in
+    let may = c.taken_laws.ensures.may h quota (Store call) (remove_record call) c.requires.body adds in
     document_there call.path (docs h) (c.lawful_laws.ensures.documents h stands.1.lawful) (and_parts _ _ may).0
 
 pub returns-in-Answer-clause-turned : goal.returns-in-Answer-clause-turned
@@ -82,19 +81,19 @@ returns-in-Put-clause-turned g c h who s =
     let call = c.args.call.now in
     let quota = c.args.self.now.quota in
     let is = told (snapshot h) call _ _ _ c.in-Put.is (c.in_ok-reply.ensures.decided (snapshot h) s.shows) in
-    let adds : taken h quota (Store call) ≡ Some (put_of call) = ap (record_of_call call) is in
-    kept_turns g.T.Tree.stands c.keep_put.new.self h quota who (Store call) (put_of call) (Stored (len h + 1) c.in-Put.created) c.keep_put.result
+    let adds : taken h quota (Store call) ≡ Some (put_record call) = ap (record_of_call call) is in
+    kept_turns g.T.Tree.stands c.keep_put.new.self h quota who (Store call) (put_record call) (Stored (len h + 1) c.in-Put.created) c.keep_put.result
     _ _ _ _ is refl
-    (c.keep_put.ensures.keeps h who s (c.taken_laws.ensures.may h quota (Store call) (put_of call) c.requires.body adds)
-    (c.taken_laws.ensures.room h quota (Store call) (put_of call) adds))
+    (c.keep_put.ensures.keeps h who s (c.taken_laws.ensures.may h quota (Store call) (put_record call) c.requires.body adds)
+    (c.taken_laws.ensures.room h quota (Store call) (put_record call) adds))
 
 pub returns-in-Remove-clause-turned : goal.returns-in-Remove-clause-turned
 returns-in-Remove-clause-turned g c h who s =
     let call = c.args.call.now in
     let quota = c.args.self.now.quota in
     let is = told (snapshot h) call _ _ _ c.in-Remove.is (c.in_ok-reply.ensures.decided (snapshot h) s.shows) in
-    let adds : taken h quota (Store call) ≡ Some (remove_of call) = ap (record_of_call call) is in
-    kept_turns g.T.Tree.stands c.keep_remove.new.self h quota who (Store call) (remove_of call) (Removed c.in-Remove.version) c.keep_remove.result
+    let adds : taken h quota (Store call) ≡ Some (remove_record call) = ap (record_of_call call) is in
+    kept_turns g.T.Tree.stands c.keep_remove.new.self h quota who (Store call) (remove_record call) (Removed c.in-Remove.version) c.keep_remove.result
     _ _ _ _ is refl
-    (c.keep_remove.ensures.keeps h who s (c.taken_laws.ensures.may h quota (Store call) (remove_of call) c.requires.body adds)
-    (c.taken_laws.ensures.room h quota (Store call) (remove_of call) adds))
+    (c.keep_remove.ensures.keeps h who s (c.taken_laws.ensures.may h quota (Store call) (remove_record call) c.requires.body adds)
+    (c.taken_laws.ensures.room h quota (Store call) (remove_record call) adds))

@@ -1,235 +1,20 @@
 //! Turns and openings, against replies and rows worked out by hand, and that each call answers with ample memory.
 
-ghost use Rattle.std.specs.Prelude.{◌≡◌, ◌≤◌, true, length, IfOk};
-ghost use Rattle.rs_rules.specs.Requests.{is_within_limit};
-
+use crate::asking::{check, expect};
+use crate::rows::{owner, stranger};
 use crate::turn_cases::{
     ABSENT, CLASHES, EMPTIED, FIRST, FOURTH_FAILS, NARROW, PUBLIC, QUOTA, SECOND_FAILS, TAGS,
     THIRD_FAILS,
 };
-use crate::{OpenFault, SoloDesk, UserState};
 use rs_face::{Keeper, MemKeeper};
-use rs_path::{Bytes, Entry, Kind, Path, Tag};
+use rs_path::{Bytes, Path};
 use rs_plain::PlainTree;
-use rs_rules::{Call, Cond, Desk, Pass, Reply, Request, Tree};
-use rs_scope::{Method, Scopes, Token};
+use rs_rules::{Desk, OpenFault, Request, Tree};
+use rs_scope::Scopes;
+use rs_user::{SoloDesk, UserState};
 use std::alloc::Global;
 use std::process::Abort;
 use std::test::Fail;
-
-// ---- rows of a table
-
-pub(crate) fn owner() -> Token {
-    Token::of_words(0x0001_0203_0405_0607, 0x0809_0A0B_0C0D_0E0F)
-}
-
-pub(crate) fn stranger() -> Token {
-    Token::of_words(1, 2)
-}
-
-fn pass_of(who: &str) -> Result<Pass, Fail> {
-    match who {
-        "nobody" => Ok(Pass::Missing),
-        "strange" => Ok(Pass::Strange),
-        "owner" => Ok(Pass::Known(owner())),
-        "stranger" => Ok(Pass::Known(stranger())),
-        _ => Err("no such token")?,
-    }
-}
-
-fn method_of(text: &str) -> Result<Method, Fail> {
-    match text {
-        "GET" => Ok(Method::Get),
-        "HEAD" => Ok(Method::Head),
-        "PUT" => Ok(Method::Put),
-        "DELETE" => Ok(Method::Delete),
-        _ => Err("no such method")?,
-    }
-}
-
-fn cond_of(alloc: Global, text: &str) -> Result<Cond, Fail> {
-    if text.is_empty() || 100 < text.len() {
-        return Ok(Cond::Missing);
-    }
-    Ok(Cond::read(alloc, text.as_bytes())?)
-}
-
-pub(crate) fn body_of(alloc: Global, text: &str) -> Result<Bytes, Fail>
-    ensures short { IfOk result (λ body. length body ≤ 100) }
-{
-    if 100 < text.len() {
-        Err("a long body")?;
-    }
-    Ok(Bytes::of(text.as_bytes().to_vec(alloc)?))
-}
-
-// The request and the reply of a row.
-fn case_of(alloc: Global, row: &'static str) -> Result<(Request, &'static str), Fail>
-    ensures short { IfOk result (λ case. is_within_limit case.0 ≡ true) }
-{
-    let mut cells = row.split('|');
-    let method = method_of(cells.next().ok_or("no method")?.trim())?;
-    let path = cells.next().ok_or("no path")?.trim();
-    let pass = pass_of(cells.next().ok_or("nobody")?.trim())?;
-    let if_match = cond_of(alloc, cells.next().ok_or("no If-Match")?.trim())?;
-    let if_none = cond_of(alloc, cells.next().ok_or("no If-None-Match")?.trim())?;
-    let body = body_of(alloc, cells.next().ok_or("no body")?.trim())?;
-    let reply = cells.next().ok_or("no reply")?.trim();
-    let request = Request::Store(Call {
-        method,
-        path: Path::read_plain(alloc, path.as_bytes())?,
-        pass,
-        if_match,
-        if_none,
-        kind: plain_text(alloc)?,
-        body,
-    });
-    Ok((request, reply))
-}
-
-pub(crate) fn plain_text(alloc: Global) -> Result<Kind, Fail> {
-    Ok(Kind::read(alloc, b"text/plain")?.ok_or("no content type")?)
-}
-
-// ---- replies as texts
-
-fn push_number(alloc: Global, out: &mut Vec<u8>, n: u64) -> Result<(), Fail> {
-    out.push(b' ')?;
-    out.extend_from_slice(Tag::of(alloc, n)?.as_slice())?;
-    Ok(())
-}
-
-fn push_item(alloc: Global, out: &mut Vec<u8>, item: &Entry) -> Result<(), Fail> {
-    out.extend_from_slice(b", ")?;
-    out.extend_from_slice(item.name.as_slice())?;
-    if item.folder {
-        out.push(b'/')?;
-    }
-    out.push(b' ')?;
-    out.extend_from_slice(item.tag.as_slice())?;
-    if let Some(kind) = &item.kind {
-        out.push(b' ')?;
-        out.extend_from_slice(kind.as_slice())?;
-    }
-    if let Some(length) = item.length {
-        push_number(alloc, out, length)?;
-    }
-    Ok(())
-}
-
-fn word_of(reply: &Reply) -> &'static [u8] {
-    match reply {
-        Reply::Found { .. } => b"Found",
-        Reply::Folder { .. } => b"Folder",
-        Reply::Stored { .. } => b"Stored",
-        Reply::Removed { .. } => b"Removed",
-        Reply::Same { .. } => b"Same",
-        Reply::NoToken => b"NoToken",
-        Reply::BadToken => b"BadToken",
-        Reply::Forbidden => b"Forbidden",
-        Reply::FolderWrite => b"FolderWrite",
-        Reply::Clash { .. } => b"Clash",
-        Reply::Absent => b"Absent",
-        Reply::Unmet => b"Unmet",
-        Reply::RecordsFull => b"RecordsFull",
-        Reply::OverQuota { .. } => b"OverQuota",
-        Reply::FolderFull { .. } => b"FolderFull",
-        Reply::StoreFailed => b"StoreFailed",
-        Reply::Granted => b"Granted",
-        Reply::TokenTaken => b"TokenTaken",
-        Reply::Revoked => b"Revoked",
-        Reply::NotGranted => b"NotGranted",
-    }
-}
-
-// The reply's name and what it has, as the table writes them.
-fn text_of(alloc: Global, reply: &Reply) -> Result<Vec<u8>, Fail> {
-    let mut out = word_of(reply).to_vec(alloc)?;
-    match reply {
-        Reply::Found {
-            version,
-            kind,
-            body,
-        } => {
-            push_number(alloc, &mut out, *version)?;
-            out.push(b' ')?;
-            out.extend_from_slice(kind.as_slice())?;
-            out.push(b' ')?;
-            out.extend_from_slice(body.as_slice())?;
-        }
-        Reply::Folder { version, items } => {
-            push_number(alloc, &mut out, *version)?;
-            for item in items.as_slice() {
-                push_item(alloc, &mut out, item)?;
-            }
-        }
-        Reply::Stored { version, created } => {
-            push_number(alloc, &mut out, *version)?;
-            out.extend_from_slice(if *created { b" created" } else { b" replaced" })?;
-        }
-        Reply::Removed { version } | Reply::Same { version } => {
-            push_number(alloc, &mut out, *version)?;
-        }
-        Reply::OverQuota { live } => push_number(alloc, &mut out, *live)?,
-        Reply::Clash { path } | Reply::FolderFull { path } => {
-            out.push(b' ')?;
-            path.write_plain(&mut out)?;
-        }
-        _ => {}
-    }
-    Ok(out)
-}
-
-// ---- turns
-
-// The reply to a request, as the table writes it.
-fn reply_of<D: Desk>(alloc: Global, desk: &mut D, request: &Request) -> Result<Vec<u8>, Fail>
-    requires served { D.serves desk.old 0 }
-    requires body { is_within_limit request.now ≡ true }
-    ensures served { D.serves desk.new 0 }
-{
-    match desk.turn(0, request) {
-        Ok(turn) => text_of(alloc, &turn.reply),
-        Err(_) => Err("no memory")?,
-    }
-}
-
-// The request has this reply.
-pub(crate) fn expect<D: Desk>(
-    rt: &impl Abort,
-    alloc: Global,
-    desk: &mut D,
-    request: &Request,
-    wanted: &[u8],
-) -> Result<(), Fail>
-    requires served { D.serves desk.old 0 }
-    requires body { is_within_limit request.now ≡ true }
-    ensures served { D.serves desk.new 0 }
-{
-    let reply = reply_of(alloc, desk, request)?;
-    assert_eq!(rt; reply.as_slice(), wanted);
-    Ok(())
-}
-
-// Each row of the table has its reply. The number of rows.
-pub(crate) fn check<D: Desk>(
-    rt: &impl Abort,
-    alloc: Global,
-    desk: &mut D,
-    table: &'static str,
-) -> Result<usize, Fail>
-    requires served { D.serves desk.old 0 }
-    ensures served { D.serves desk.new 0 }
-{
-    let mut rows: usize = 0;
-    for row in table.trim().split('\n') {
-        rows = rows.saturating_add(1);
-        let (request, wanted) = case_of(alloc, row)?;
-        let reply = reply_of(alloc, desk, &request)?;
-        assert_eq!(rt; reply.as_slice(), wanted.as_bytes(), "at row {rows}");
-    }
-    Ok(rows)
-}
 
 // The table of a run over no rows, after the grant of these scopes; the appends with these numbers fail.
 fn run(
@@ -297,7 +82,7 @@ fn a_failed_append_leaves_all_as_it_was(rt: HostRuntime) -> Result<(), Fail> {
 
 // ---- openings
 
-pub(crate) const GRANT: &[u8] =
+pub const GRANT: &[u8] =
     b"\x01\x03\x00\x01\x02\x03\x04\x05\x06\x07\x08\x09\x0A\x0B\x0C\x0D\x0E\x0F\x00\x08notes:rw";
 
 const GRANT_TO_READ: &[u8] =
@@ -305,7 +90,7 @@ const GRANT_TO_READ: &[u8] =
 
 const REVOKE: &[u8] = b"\x01\x04\x00\x01\x02\x03\x04\x05\x06\x07\x08\x09\x0A\x0B\x0C\x0D\x0E\x0F";
 
-pub(crate) const PUT: &[u8] = b"\x01\x01\x00\x08/notes/x\x0Atext/plain\x00\x00\x00\x05hello";
+pub const PUT: &[u8] = b"\x01\x01\x00\x08/notes/x\x0Atext/plain\x00\x00\x00\x05hello";
 
 const REMOVE: &[u8] = b"\x01\x02\x00\x02/x";
 
@@ -314,11 +99,7 @@ const WRITTEN_PUT: &[u8] =
 
 const CUT: &[u8] = b"\x01\x03";
 
-pub(crate) fn keeper_of(
-    alloc: Global,
-    rows: &[&[u8]],
-    failing: Vec<u64>,
-) -> Result<MemKeeper, Fail> {
+pub fn keeper_of(alloc: Global, rows: &[&[u8]], failing: Vec<u64>) -> Result<MemKeeper, Fail> {
     let mut list = Vec::new(alloc);
     for row in rows {
         list.push(Bytes::of(row.to_vec(alloc)?))?;
