@@ -193,10 +193,10 @@ listing_of (Decided (Folder version items)) = folder_text items
 listing_of answer = []
 
 -- the body: a document's bytes, a folder's description, or nothing
-abbrev pub reply_body : Answer → List ℕ
-reply_body (Decided (Found version kind body)) = body
-reply_body (Decided (Folder version items)) = folder_text items
-reply_body answer = []
+abbrev pub answer_body : Answer → List ℕ
+answer_body (Decided (Found version kind body)) = body
+answer_body (Decided (Folder version items)) = folder_text items
+answer_body answer = []
 
 -- the answer has a body of its own: a document or the description of a folder
 abbrev pub has_content : Answer → Bool
@@ -206,11 +206,11 @@ has_content answer = false
 
 -- the head tells the body's length, also where the body is not sent
 abbrev pub reply_head : Manner → Answer → List ℕ
-reply_head manner answer = head_with (length (reply_body answer)) manner answer
+reply_head manner answer = head_with (length (answer_body answer)) manner answer
 
 -- the body that is sent: none to a HEAD (RFC 9110, section 9.3.2)
 abbrev pub sent_body : Manner → Answer → List ℕ
-sent_body manner answer = if manner.bodiless then [] else reply_body answer
+sent_body manner answer = if manner.bodiless then [] else answer_body answer
 
 -- the reply
 abbrev pub reply_bytes : Manner → Answer → List ℕ

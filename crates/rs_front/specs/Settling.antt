@@ -39,16 +39,16 @@ pub record Decides {E : Type 0} (users : Users) (asked : Asked) (old : ℕ → H
   pub answer : IsAnswer users asked outcome result
 
 -- the bytes of the reply are those that the outcome gives, or memory was wanted
-abbrev pub IsWritten : {E : Type 0} → Users → Manner → Asked → Outcome → Result Written E → Type 0
-IsWritten users manner asked outcome (Ok written) = written.head.items ++ written.body ≡ answer_bytes manner (answer_of users asked outcome)
-IsWritten users manner asked outcome (Err e) = outcome ≡ starved
+abbrev pub IsReplyMade : {E : Type 0} → Users → Manner → Asked → Outcome → Result Written E → Type 0
+IsReplyMade users manner asked outcome (Ok written) = written.head.items ++ written.body ≡ answer_bytes manner (answer_of users asked outcome)
+IsReplyMade users manner asked outcome (Err e) = outcome ≡ starved
 
 -- what was asked has an outcome, by which the histories went on from the old ones to those of the users, and whose bytes were made
 pub record Settles {E : Type 0} (users : Users) (manner : Manner) (asked : Asked) (old : ℕ → History) (before now : ℕ) (result : Result Written E) : Type 0 where
   pub outcome : Outcome
   pub goes_on : GoesOn users asked outcome old users.history
   pub unkept : HasFaults (outcome ∷ []) before now
-  pub written : IsWritten users manner asked outcome result
+  pub written : IsReplyMade users manner asked outcome result
 
 -- the reply was written that the outcome gives, after so many others, or a front of it where the sink failed or couldn't grow
 pub record RepliesTo {A E : Type 0} (users : Users) (accounts : List Account) (count : ℕ) (m : RequestMessage) (old : ℕ → History)

@@ -1,7 +1,7 @@
 //! Replies, written.
 
 ghost use Rattle.std.specs.Prelude.{◌≡◌, ◌+◌, ◌<◌, ◌≤◌, true, false, [], ◌++◌, length, IfOk, OnOk, OnErr, vec_capacity};
-ghost use Rattle.rs_front.specs.ReplyBytes.{first_lines, last_lines, head_with, reply_head, reply_body, sent_body, listing_of, has_content};
+ghost use Rattle.rs_front.specs.ReplyBytes.{first_lines, last_lines, head_with, reply_head, answer_body, sent_body, listing_of, has_content};
 
 use crate::answer::Answer;
 use crate::lines::{close_line, origin_lines, put};
@@ -127,7 +127,7 @@ fn listing_of(alloc: Global, answer: &Answer) -> Result<Bytes, NoMemory>
 // The length of the body, where the description is there.
 fn size_of(answer: &Answer, listing: &[u8]) -> usize
     requires listing { listing.now ≡ listing_of answer.now }
-    ensures size { result ≡ length (reply_body answer.now) }
+    ensures size { result ≡ length (answer_body answer.now) }
     ensures none { has_content answer.now ≡ false → result ≡ 0 }
 {
     match answer {
@@ -139,7 +139,7 @@ fn size_of(answer: &Answer, listing: &[u8]) -> usize
 // The body, where the description is there.
 fn into_body(answer: Answer, listing: Bytes) -> Bytes
     requires listing { listing ≡ listing_of answer }
-    ensures body { result ≡ reply_body answer }
+    ensures body { result ≡ answer_body answer }
 {
     match answer {
         Answer::Decided(Reply::Found { body, .. }) => body,
