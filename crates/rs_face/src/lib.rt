@@ -27,4 +27,3 @@ pub use no_fail_source::NoFailSource;
 pub use rs_path::{Bytes, NoMemory};
 pub use sink::{Sink, SinkFault, write_all};
 pub use source::{Source, SourceFault};
-

@@ -1,7 +1,6 @@
 //! The fields of a request that this server reads.
 
 ghost use Rattle.std.specs.Prelude.{◌≡◌, ◌++◌, ◌∷◌, [], ℕ, List, IfOk, OnOk, option_map};
-ghost use Rattle.rs_wire.specs.Names.{same_name, is_field_named};
 ghost use Rattle.rs_front.specs.Fields.{values_of, joined, with_value, Occurring};
 
 use rs_path::NoMemory;
@@ -22,7 +21,7 @@ pub(crate) fn look_up<'a>(fields: &'a [Field], name: &[u8]) -> Occurs<'a>
 {
     let mut occurs = Occurs::Never;
     for field in fields {
-        if is_field_named(field, name) {
+        if field.is_named(name) {
             occurs = once_more(occurs, field.value.as_slice());
         }
     }
@@ -40,20 +39,6 @@ fn once_more<'a>(occurs: Occurs<'a>, value: &'a [u8]) -> Occurs<'a>
     }
 }
 
-fn is_field_named(field: &Field, name: &[u8]) -> bool
-    ensures named { result ≡ is_field_named name.now field.now }
-{
-    same_name(field.name.as_slice(), name)
-}
-
-/// Whether two texts are the same where letters have no case.
-#[tactic(auto, using(rs_wire::proofs::NameLemmas::same_by_test), unfolding(rs_wire::specs::Names::same_name))]
-pub(crate) fn same_name(a: &[u8], b: &[u8]) -> bool
-    ensures same { result ≡ same_name a.now b.now }
-{
-    a.eq_ignore_ascii_case(b)
-}
-
 /// The values of the fields of that name, joined by a comma and a space in their order (RFC 9110, section 5.3), or None where
 /// there is no such field.
 pub(crate) fn joined(
@@ -65,7 +50,7 @@ pub(crate) fn joined(
 {
     let mut text = None;
     for field in fields {
-        if is_field_named(field, name) {
+        if field.is_named(name) {
             text = Some(with_value(alloc, text, field.value.as_slice())?);
         }
     }

@@ -4,9 +4,10 @@ ghost use Rattle.std.specs.Prelude.{◌≡◌, ◌<◌, ◌==◌, ℕ, List, len
 ghost use Rattle.rs_front.specs.Fields.{Occurring};
 ghost use Rattle.rs_front.specs.Passes.{after_spaces, pass_of_text, pass_of_scheme, pass_of_value, pass_of};
 
-use crate::fields::{Occurs, same_name};
+use crate::fields::Occurs;
 use rs_rules::Pass;
 use rs_scope::Token;
+use rs_wire::same_name;
 
 /// What the Authorization fields show.
 pub(crate) fn read_pass(fields: Occurs) -> Pass

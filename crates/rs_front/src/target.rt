@@ -6,6 +6,7 @@ ghost use Rattle.rs_front.specs.Targets.{after_prefix, after_scheme, after_name,
 use crate::account::Accounts;
 use crate::verb::Verb;
 use rs_scope::Method;
+use rs_wire::same_name;
 
 /// What a request is about (RFC 9112, section 3.2).
 #[derive(Clone, Copy, Debug, PartialEq, Eq)]
@@ -59,7 +60,6 @@ fn after_scheme(target: &[u8]) -> Option<&[u8]>
 }
 
 // What follows the name, where the text begins with it in any case.
-#[tactic(auto, using(rs_wire::proofs::NameLemmas::same_by_test), unfolding(rs_wire::specs::Names::same_name))]
 fn after_name<'a>(name: &[u8], text: &'a [u8]) -> Option<&'a [u8]>
     ensures rest { option_map (λ rest. rest.now) result ≡ after_name name.now text.now }
 {
@@ -67,7 +67,7 @@ fn after_name<'a>(name: &[u8], text: &'a [u8]) -> Option<&'a [u8]>
         return None;
     }
     let (front, rest) = text.split_at(name.len());
-    if front.eq_ignore_ascii_case(name) {
+    if same_name(front, name) {
         Some(rest)
     } else {
         None

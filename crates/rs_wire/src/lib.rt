@@ -32,6 +32,7 @@ pub use limits::{
     limit_laws,
 };
 pub use message::{ReplyMessage, RequestMessage, Step};
+pub use name::same_name;
 pub use reader::RequestReader;
 pub use replied::written_replies;
 pub use reply::read_reply;

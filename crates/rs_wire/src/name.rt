@@ -6,17 +6,17 @@ ghost use Rattle.rs_wire.specs.Names.{same_name, is_field_named, says};
 
 use crate::field::Field;
 
-/// Whether two texts are the same where letters have no case.
+/// Whether two texts are the same where letters of ASCII have no case, as names of fields and schemes are compared. It takes no memory.
 #[tactic(auto, using(crate::proofs::NameLemmas::same_by_test), unfolding(crate::specs::Names::same_name))]
-pub(crate) fn same_name(a: &[u8], b: &[u8]) -> bool
+pub fn same_name(a: &[u8], b: &[u8]) -> bool
     ensures { result ≡ same_name a.now b.now }
 {
     a.eq_ignore_ascii_case(b)
 }
 
 impl Field {
-    /// Whether the field has this name.
-    pub(crate) fn is_named(&self, name: &[u8]) -> bool
+    /// Whether the field has this name, whatever the case of its letters. It takes no memory.
+    pub fn is_named(&self, name: &[u8]) -> bool
         ensures { result ≡ is_field_named name.now self.now }
     {
         same_name(self.name.as_slice(), name)
