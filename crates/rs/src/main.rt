@@ -8,7 +8,7 @@ mod streams;
 mod words;
 
 use entropy::OsEntropy;
-use rows::{close_rows, open_rows};
+use rows::{close_file, open_file};
 use rs_cli::{Note, Status, needs_rows, run_here};
 use rs_face::{Keeper, NoFailKeeper, NoMemory};
 use std::alloc::Global;
@@ -36,10 +36,10 @@ fn run(rt: &HostRuntime, words: &[String]) -> Status {
 }
 
 fn run_over_file(rt: &HostRuntime, words: &[String]) -> Status {
-    match open_rows(rt) {
+    match open_file(rt) {
         Ok(mut keeper) => {
             let status = run_over(rt, words, &mut keeper);
-            close_rows(keeper);
+            close_file(keeper);
             status
         }
         Err(note) => note.status(),

@@ -9,7 +9,7 @@ use sqlite::{Connection, Error, ErrorCode, File, FileStore};
 pub type FileRows = SqlKeeper<FileStore<File>>;
 
 /// Opens the file, which is made where it isn't there. The note is `NoMemory` or `KeeperFailed`.
-pub fn open_rows(rt: &HostRuntime) -> Result<FileRows, Note> {
+pub fn open_file(rt: &HostRuntime) -> Result<FileRows, Note> {
     let connection = match Connection::open(rt, "rows.db") {
         Ok(connection) => connection,
         Err(Error::SqliteFailure(ErrorCode::OutOfMemory)) => return Err(Note::NoMemory),
@@ -23,6 +23,6 @@ pub fn open_rows(rt: &HostRuntime) -> Result<FileRows, Note> {
 }
 
 /// Closes the file. Where this fails, what was kept is in the log beside the file, and the next opening takes it.
-pub fn close_rows(keeper: FileRows) {
+pub fn close_file(keeper: FileRows) {
     let _ = keeper.into_connection().close();
 }

@@ -1,7 +1,9 @@
 //! Rows kept in a database, a row of a table each.
 #![tactic(auto)]
 
+mod limits;
 mod sql_keeper;
 mod statements;
 
+pub use limits::{MAX_ROWS, limit_laws};
 pub use sql_keeper::SqlKeeper;

@@ -3,13 +3,11 @@ ghost use Rattle.std.specs.Prelude.{◌≡◌, IfOk};
 ghost use Rattle.rs_face.specs.Causes.{one_more};
 ghost use Rattle.rs_sqlite.specs.Counts.{fault_of, faults_after};
 
+use crate::limits::MAX_ROWS;
 use crate::statements::{fetch, insert, rows_of};
 use rs_face::{KeepFault, Keeper};
 use sqlite::{Alter, Connection, Error, ErrorCode};
 use std::marker::Model;
-
-/// The greatest number of rows: the greatest number that a column of integers holds.
-const MAX_ROWS: u64 = 9_223_372_036_854_775_807;
 
 /// A keeper that holds its rows in the table `kept(n INTEGER PRIMARY KEY, bytes BLOB NOT NULL)` of a database.
 ///
@@ -37,11 +35,12 @@ impl<S: Alter> Model for SqlKeeper<S> {
 
     ghost Value = { Counts };
 
-    ghost use Rattle.std.specs.Prelude.{◌<◌, ◌^◌};
+    ghost use Rattle.std.specs.Prelude.{◌≤◌};
+    ghost use Rattle.rs_sqlite.specs.Limits.{max_rows};
 
     ghost view = { λ k. record { rows = k.len; faults = k.faults } };
 
-    ghost invariant = { λ k. k.len < 2 ^ 63 };
+    ghost invariant = { λ k. k.len ≤ max_rows };
 }
 
 impl<S: Alter + Drop> SqlKeeper<S> {

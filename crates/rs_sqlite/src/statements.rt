@@ -1,14 +1,15 @@
 //! The statements of a keeper, each in a function of its own. What they do to a database is `sqlite`'s, and is shown
 //! by tests.
 
-ghost use Rattle.std.specs.Prelude.{◌<◌, ◌^◌, IfOk, IfSome};
+ghost use Rattle.std.specs.Prelude.{◌≤◌, IfOk, IfSome};
+ghost use Rattle.rs_sqlite.specs.Limits.{max_rows};
 
 use sqlite::{Alter, Connection, Error, params};
 
 /// How many rows the database has, numbered from 1 without a gap; None where they are numbered otherwise. The table
 /// is made where it isn't there.
 pub(crate) fn rows_of<S: Alter>(connection: &mut Connection<S>) -> Result<Option<u64>, Error>
-    ensures { IfOk result (λ rows. IfSome rows (λ count. count < 2 ^ 63)) }
+    ensures { IfOk result (λ rows. IfSome rows (λ count. count ≤ max_rows)) }
 {
     make_table(connection)?;
     count_rows(connection)
@@ -23,7 +24,7 @@ fn make_table<S: Alter>(connection: &mut Connection<S>) -> Result<(), Error> {
 }
 
 fn count_rows<S: Alter>(connection: &mut Connection<S>) -> Result<Option<u64>, Error>
-    ensures { IfOk result (λ rows. IfSome rows (λ count. count < 2 ^ 63)) }
+    ensures { IfOk result (λ rows. IfSome rows (λ count. count ≤ max_rows)) }
 {
     let row = connection.query_row(
         "SELECT count(bytes), coalesce(min(n), 1), coalesce(max(n), 0) FROM kept",

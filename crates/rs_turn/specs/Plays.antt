@@ -1,4 +1,5 @@
--- What each step on the table tells the seat that makes it: of the seat before, the number found and the seat after.
+-- What each step on the table tells the seat that makes it: of the seat before, the number found
+-- and the seat after.
 use Rattle.std.specs.Prelude.{◌≡◌, ℕ, ◌+◌, ◌%◌, ◌^◌, ◌≤◌, cond, nat_lt, List, [], ◌∷◌, length, Option, Some, None}
 use Rattle.atomic_table.specs.Table.{Me}
 use Rattle.rs_path.specs.declared.log_entry.LogEntry.{LogEntry}
@@ -57,7 +58,8 @@ module _ {S W O : Type 0} where
 
   -- how many seats were numbered
   abbrev pub Sees : Me S (View W O) → ℕ → Me S (View W O) → Type 0
-  Sees m r n = (n.1 ≡ m.1) × (m.0.made ≤ r) × (n.0 ≡ knowing_made m.0 r (cond (nat_lt r max_seats) Looked Idle))
+  Sees m r n = (n.1 ≡ m.1) × (m.0.made ≤ r)
+      × (n.0 ≡ knowing_made m.0 r (cond (nat_lt r max_seats) Looked Idle))
 
   -- one more seat is numbered, unless there were too many
   abbrev pub Numbers : Me S (View W O) → ℕ → Me S (View W O) → Type 0
@@ -66,20 +68,25 @@ module _ {S W O : Type 0} where
 
   -- what was told is seen
   abbrev pub Adopts : Me S (View W O) → ℕ → Me S (View W O) → Type 0
-  Adopts m r n = (n.1 ≡ m.1) × (own m.0.number m.0.told ≡ own m.0.number m.0.seen) × (n.0 ≡ having_seen m.0 m.0.told)
+  Adopts m r n = (n.1 ≡ m.1) × (own m.0.number m.0.told ≡ own m.0.number m.0.seen)
+      × (n.0 ≡ having_seen m.0 m.0.told)
 
 module _ {S W O : Type 0} (stood : O → List (LogEntry W) → Type 0) where
-  -- the whole history is seen, which begins with what the origin stood for, what was seen and what was told
+  -- the whole history is seen, which begins with what the origin stood for, what was seen and what
+  -- was told
   abbrev pub CountsLog : Me S (View W O) → ℕ → Me S (View W O) → Type 0
-  CountsLog m r n = (n.1 ≡ m.1) × (r ≡ length n.0.seen) × BeginsAsMade stood m.0.origin n.0.seen × StartsWith n.0.seen m.0.seen × StartsWith n.0.seen m.0.told
+  CountsLog m r n = (n.1 ≡ m.1) × (r ≡ length n.0.seen) × BeginsAsMade stood m.0.origin n.0.seen
+      × StartsWith n.0.seen m.0.seen × StartsWith n.0.seen m.0.told
       × (own m.0.number n.0.seen ≡ own m.0.number m.0.seen) × (n.0 ≡ having_seen m.0 n.0.seen)
 
 module _ {B W O : Type 0} (stands : O → B → List (LogEntry W) → Type 0) where
   -- the seat has the value, and has seen the history that it stands for
   abbrev pub TakesValue : View W O → ℕ → Me (Option B) (View W O) → Type 0
-  TakesValue v t n = (b : B) × (o : O) × (v.origin ≡ Some o) × (n.1 ≡ (0, Some b) ∷ []) × stands o b n.0.seen × StartsWith n.0.seen v.seen
+  TakesValue v t n = (b : B) × (o : O) × (v.origin ≡ Some o) × (n.1 ≡ (0, Some b) ∷ [])
+      × stands o b n.0.seen × StartsWith n.0.seen v.seen
       × (own v.number n.0.seen ≡ own v.number v.seen) × (n.0 ≡ at_stage (having_seen v n.0.seen) (Holding t))
 
   -- the ticket that is served: the seat's own, and it takes the value, or another
   abbrev pub Looks : Me (Option B) (View W O) → ℕ → Me (Option B) (View W O) → Type 0
-  Looks m r n = (t : ℕ) → m.0.stage ≡ Waiting t → (r ≡ t % 2 ^ 64 → TakesValue m.0 t n) × (¬ (r ≡ t % 2 ^ 64) → n ≡ m)
+  Looks m r n = (t : ℕ) → m.0.stage ≡ Waiting t → (r ≡ t % 2 ^ 64 → TakesValue m.0 t n)
+      × (¬ (r ≡ t % 2 ^ 64) → n ≡ m)

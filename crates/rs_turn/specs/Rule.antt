@@ -1,4 +1,5 @@
--- The rule of the table that the seats of a lock share. It has three parts, and each step of a seat keeps it.
+-- The rule of the table that the seats of a lock share. It has three parts, and each step of a seat
+-- keeps it.
 use Rattle.std.specs.Prelude.{◌≡◌, ℕ, ◌+◌, ◌%◌, ◌^◌, ◌<◌, ◌≤◌, min, ◌⊎◌, List, [], ◌∷◌, length, Option, Some}
 use mathlib.Core.Option as home
 use lib.ListN.{get_elem?}
@@ -81,7 +82,8 @@ module _ {W O : Type 0} where
   abbrev pub named : View W O → ℕ
   named v = min v.number 1 + has_drawn v.stage
 
-  -- Part 1, seats. Each number is of one view, and none is above `made`; no view keeps more than `made`; only a numbered seat does anything.
+  -- Part 1, seats. Each number is of one view, and none is above `made`; no view keeps more than
+  -- `made`; only a numbered seat does anything.
   pub record SeatFits (made : ℕ) (owner : ℕ → ℕ) (by : ℕ) (v : View W O) : Type 0 where
     pub number : 0 < v.number → (owner v.number ≡ by) × (v.number ≤ made)
     pub drawn : (n : ℕ) → v.stage ≡ Drew n → (owner n ≡ by) × (n ≤ made) × (v.number < n)
@@ -93,12 +95,15 @@ module _ {W O : Type 0} where
     pub names : tally named views ≤ made
     pub room : tally drawing views + made < 2 ^ 33
 
-  -- Part 2, turns. The tickets that are out are those from `first` up to the one before `last`, each with one view, and who holds has the first.
+  -- Part 2, turns. The tickets that are out are those from `first` up to the one before `last`,
+  -- each with one view, and who holds has the first.
   pub record Queue (last first : ℕ) (turn : ℕ → ℕ) (views : List (View W O)) : Type 0 where
-    pub each : (by : ℕ) (v : View W O) → get_elem? views by ≡ home.some v → InTurn last first turn by v.stage
+    pub each : (by : ℕ) (v : View W O) → get_elem? views by ≡ home.some v
+        → InTurn last first turn by v.stage
     pub line : tally queued views + first ≡ last
 
-  -- Part 3, history. It begins with what the origin stood for. What a view has seen or was told begins the history, and the entries of a number are all among what its seat has seen.
+  -- Part 3, history. It begins with what the origin stood for. What a view has seen or was told
+  -- begins the history, and the entries of a number are all among what its seat has seen.
   pub record LogFits (o : O) (log : List (LogEntry W)) (v : View W O) : Type 0 where
     pub origin : 0 < v.number → v.origin ≡ Some o
     pub seen : StartsWith log v.seen

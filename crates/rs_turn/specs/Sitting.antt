@@ -10,7 +10,8 @@ pub record Lock (V : Type 0) : Type 0 where
   pub table : TableId
   pub origin : Option V
 
--- a seat: of which lock, its number, the history as far as it has seen it, how many seats it knows to be numbered, and its count of faults
+-- a seat: of which lock, its number, the history as far as it has seen it, how many seats it knows
+-- to be numbered, and its count of faults
 pub record Sitting (W V : Type 0) : Type 0 where
   pub lock : Lock V
   pub who : ℕ

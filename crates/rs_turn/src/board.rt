@@ -1,7 +1,8 @@
 //! The table that the seats of a lock share.
 //!
-//! Word 0 counts the tickets drawn and word 1 those served, both modulo 2 to the 64th. Word 2 is the length of the history, and word 3 the
-//! number of the last seat that was numbered. The one slot holds the value, but for the time from the look that finds a seat's ticket to its pass.
+//! Word 0 counts the tickets drawn and word 1 those served, both modulo 2 to the 64th. Word 2 is
+//! the length of the history, and word 3 the number of the last seat that was numbered. The one
+//! slot holds the value, but for the time from the look that finds a seat's ticket to its pass.
 use crate::held::Held;
 use atomic_table::{Seat, Shared, Table, TableRule};
 use rs_path::LogEntry;
@@ -17,7 +18,8 @@ pub(crate) const COUNT: usize = 2;
 
 pub(crate) const MADE: usize = 3;
 
-/// What a seat is about. Tickets are counted without end here, so that no two are the same. No value of it is made.
+/// What a seat is about. Tickets are counted without end here, so that no two are the same. No
+/// value of it is made.
 pub enum Stage {
     Idle,
     /// It has drawn this ticket.

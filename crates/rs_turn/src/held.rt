@@ -1,8 +1,10 @@
 //! What a lock holds.
 
-/// A value that a `TurnLock` can hold: it stands for a list of entries, of which it need not keep a copy.
+/// A value that a `TurnLock` can hold: it stands for a list of entries, of which it need not keep a
+/// copy.
 ///
-/// The `who` of an entry is the number of the seat whose turn added it. Those that the value had when its lock was made have 0.
+/// The `who` of an entry is the number of the seat whose turn added it. Those that the value had
+/// when its lock was made have 0.
 pub trait Held: Drop {
     ghost use Rattle.std.specs.Prelude.{◌≡◌, ℕ, List, length};
     ghost use Rattle.rs_path.specs.declared.log_entry.LogEntry.{LogEntry};

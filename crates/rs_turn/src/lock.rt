@@ -18,9 +18,10 @@ use std::sync::Wait;
 
 /// A lock whose callers take turns, each by a `Seat` of its own, and whose turns make one history.
 ///
-/// Clauses see which lock it is, and its `origin`: the value that it was made with, as it was then. What never changes of the values since is
-/// read off it: their `basis`, and that each list that a seat sees begins with one that the origin stood for. A seat is of this lock where the
-/// seat's `lock` is the lock.
+/// Clauses see which lock it is, and its `origin`: the value that it was made with, as it was then.
+/// What never changes of the values since is read off it: their `basis`, and that each list that a
+/// seat sees begins with one that the origin stood for. A seat is of this lock where the seat's
+/// `lock` is the lock.
 #[derive(Drop)]
 pub struct TurnLock<V: Held> {
     pub(crate) table: Owned<V>,
@@ -38,10 +39,12 @@ impl<V: Held> Model for TurnLock<V> {
 }
 
 impl<V: Held> TurnLock<V> {
-    /// A lock of this value, and its first seat, which has number 1 and has seen the history so far.
+    /// A lock of this value, and its first seat, which has number 1 and has seen the history so
+    /// far.
     ///
-    /// Each entry that the value stands for so far has `who` 0. The seat's list begins with those entries, and so does each later one of a seat
-    /// that is split off it: no seat's list is ever cut. Where there is no memory the value is dropped.
+    /// Each entry that the value stands for so far has `who` 0. The seat's list begins with those
+    /// entries, and so does each later one of a seat that is split off it: no seat's list is ever
+    /// cut. Where there is no memory the value is dropped.
     pub fn new(alloc: Global, value: V) -> Result<(TurnLock<V>, Seat<V>), NoMemory>
         requires { (h : List (LogEntry V.What)) × V.stands value h × ((n : ℕ) → 0 < n → own n h ≡ []) }
         ensures lock { IfOk result (λ r. r.0.origin ≡ Some value) }
@@ -68,8 +71,8 @@ impl<V: Held> TurnLock<V> {
 
     /// Waits for the seat's last turn and gives the value out.
     ///
-    /// The value has the lock's basis and stands for a history which begins with all that the seat has seen, and with what the value stood for when
-    /// the lock was made. This takes no memory.
+    /// The value has the lock's basis and stands for a history which begins with all that the seat
+    /// has seen, and with what the value stood for when the lock was made. This takes no memory.
     pub fn close<R: Wait>(self, rt: &R, seat: Seat<V>) -> V
         requires { seat.lock ≡ self }
         ensures basis { HasBasisOf V.basis self.origin result }

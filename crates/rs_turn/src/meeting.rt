@@ -11,7 +11,8 @@ use crate::steps::{adopt, count, inform, part};
 impl<V: Held> TurnLock<V> {
     /// Gives both seats one list, of which each old one is a prefix, and answers its length.
     ///
-    /// The entries of each of the two seats in it are those that it had in its old list: the ones that its own turns added. This takes no memory.
+    /// The entries of each of the two seats in it are those that it had in its old list: the ones
+    /// that its own turns added. This takes no memory.
     pub fn meet(&self, one: &mut Seat<V>, other: &mut Seat<V>) -> u64
         requires one { one.old.lock ≡ self.now }
         requires other { other.old.lock ≡ self.now }

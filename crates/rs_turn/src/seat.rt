@@ -8,8 +8,10 @@ use std::marker::Model;
 
 /// A seat at a `TurnLock`, by which one caller takes its turns. It may go to another thread.
 ///
-/// Clauses see its lock, its number `who`, the `list` of entries that it has seen, which begins the one history of the lock
-/// and itself begins with what the value stood for when the lock was made, `made`, at least how many seats of the lock are numbered, and `faults`, how many of its own turns failed.
+/// Clauses see its lock, its number `who`, the `list` of entries that it has seen, which begins the
+/// one history of the lock and itself begins with what the value stood for when the lock was made,
+/// `made`, at least how many seats of the lock are numbered, and `faults`, how many of its own
+/// turns failed.
 #[derive(Drop)]
 pub struct Seat<V: Held> {
     pub(crate) place: Place<V>,
@@ -39,7 +41,8 @@ impl<V: Held> Seat<V> {
         self.who
     }
 
-    /// How many entries the seat has seen. They begin with those that the value stood for when the lock was made.
+    /// How many entries the seat has seen. They begin with those that the value stood for when the
+    /// lock was made.
     pub fn front(&self) -> u64
         ensures length { result ≡ length self.now.list }
         ensures started { BeginsAsMade V.stands self.now.lock.origin self.now.list }

@@ -13,9 +13,10 @@ use crate::steps::{number, part, see};
 impl<V: Held> TurnLock<V> {
     /// A new seat, which has seen what `from` has.
     ///
-    /// Its number is greater than that of `from`, and than each number that `from` knows of. `Full` comes exactly where 4,294,967,295 seats
-    /// or more were numbered when `from` looked, or when it drew the number; it carries how many there were when `from` looked last.
-    /// This takes no memory.
+    /// Its number is greater than that of `from`, and than each number that `from` knows of. `Full`
+    /// comes exactly where 4,294,967,295 seats or more were numbered when `from` looked, or when it
+    /// drew the number; it carries how many there were when `from` looked last. This takes no
+    /// memory.
     pub fn seat(&self, from: &mut Seat<V>) -> Result<Seat<V>, SeatFault>
         requires { from.old.lock ≡ self.now }
         ensures from { (from.new ≡ record from.old { made = from.new.made }) × (from.old.made ≤ from.new.made) }

@@ -76,10 +76,11 @@ fn turn<V: Held, D: Deed<V>, R: Wait>(
 impl<V: Held> TurnLock<V> {
     /// Waits for the seat's turn and does the deed.
     ///
-    /// `act` is called once, on a value that has the origin's basis and stands for a history which begins with what the origin stood for and
-    /// with all that the seat had seen, and the answer is that call's. The seat has then seen the history as it was after the call. Its `faults` rise by one where the
-    /// answer is a failed one, and at the greatest `u64` they stay. The lock's own part takes no memory. A deed that takes a turn at the
-    /// same lock waits for ever.
+    /// `act` is called once, on a value that has the origin's basis and stands for a history which
+    /// begins with what the origin stood for and with all that the seat had seen, and the answer is
+    /// that call's. The seat has then seen the history as it was after the call. Its `faults` rise
+    /// by one where the answer is a failed one, and at the greatest `u64` they stay. The lock's own
+    /// part takes no memory. A deed that takes a turn at the same lock waits for ever.
     pub fn with_turn<D: Deed<V>, R: Wait>(
         &self,
         rt: &R,
