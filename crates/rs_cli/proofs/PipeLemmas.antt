@@ -15,8 +15,9 @@ use Rattle.rs_front.specs.Due.{Users, Outcome, GoesAlong, HasFaults, is_unkept}
 use Rattle.rs_front.specs.Ends.{Served, EndsSo, Serves}
 use Rattle.rs_front.specs.Requests.{asked_of}
 use Rattle.rs_cli.specs.declared.note.Note.{Note}
-use Rattle.rs_cli.specs.Grants.{Course}
-use Rattle.rs_cli.specs.Pipes.{account_of_user, users_of, stream, note_of_end, Pipes, PipeEnds, IsReady, OpensGranted}
+use Rattle.rs_cli.specs.Causes.{note_of_end}
+use Rattle.rs_cli.specs.Courses.{Course, course}
+use Rattle.rs_cli.specs.Pipes.{account_of_user, users_of, stream, Pipes, PipeEnds, IsOpenState, OpensGranted}
 
 -- ---- histories that go on
 
@@ -122,13 +123,13 @@ module _ {T R : Type 0} (tree_stands : T → Contents → Type 0) where
   pub pipe_ends : (user token : List ℕ) (scopes : List Scope) (quota : ℕ) (old middle new : Option (List (List ℕ))) (earlier before now count : ℕ) (state : UserState T R)
       (source sink : Course (List ℕ)) (note : Note) → earlier ≤ before
       → OpensGranted tree_stands token scopes (record { old = old; new = middle; before = earlier; now = before }) count quota state
-      → ((h : History) → IsReady tree_stands middle count state.quota state h
+      → ((h : History) → IsOpenState tree_stands middle count state.quota state h
       → Pipes user h state.quota (record { old = middle; new = new; before = before; now = now }) source sink note)
       → PipeEnds user token scopes quota (record { old = old; new = new; before = earlier; now = now }) source sink note
   pipe_ends user token scopes quota old middle new earlier before now count state source sink note sooner opens serves =
       let ready = opens.granted.ready in
       let first = opens.granted.first in
-      let mine : IsReady tree_stands middle count state.quota state first = record {
+      let mine : IsOpenState tree_stands middle count state.quota state first = record {
         stands = ready.stands;
         spells = ready.spells;
         counted = ready.counted;
@@ -148,8 +149,8 @@ module _ {T R : Type 0} (tree_stands : T → Contents → Type 0) where
   abbrev pub PipesOver : {K : Type 0} (rows : K → Option (List (List ℕ))) (faults count : K → ℕ) (user : List ℕ) (h : History) (source sink : Course (List ℕ)) (note : Note)
       → UserState T R → K → K → Type 0
   PipesOver rows faults count user h source sink note state keeper last =
-      IsReady tree_stands (rows keeper) (count keeper) state.quota state h
-      → Pipes user h state.quota (record { old = rows keeper; new = rows last; before = faults keeper; now = faults last }) source sink note
+      IsOpenState tree_stands (rows keeper) (count keeper) state.quota state h
+      → Pipes user h state.quota (course rows faults keeper last) source sink note
 
   -- the same of what a desk borrows
   pub pipes_borrowed : {K : Type 0} (rows : K → Option (List (List ℕ))) (faults count : K → ℕ) (user : List ℕ) (h : History) (source sink : Course (List ℕ)) (note : Note)

@@ -4,7 +4,7 @@ use Rattle.std.proofs.lemmas.List.{take_min, take-append-le}
 use Rattle.std.specs.Io.KnownBytes.{Appends, Keeps}
 use Rattle.rs_face.proofs.ToldLemmas.{Appends-kept, AppendsFront-whole}
 use Rattle.rs_face.specs.Told.{AppendsFront}
-use Rattle.rs_cli.specs.Asking.{Writes}
+use Rattle.rs_cli.specs.Courses.{Course, Writes}
 
 -- a front of some bytes is one of more
 pub AppendsFront-longer : (a b : Option (List ℕ)) (bytes more : List ℕ) → AppendsFront a b bytes → AppendsFront a b (bytes ++ more)
@@ -14,7 +14,8 @@ AppendsFront-longer a b bytes more (count, wrote) = (
 )
 
 -- all was written, whatever handing it on answers
-pub Writes-kept : {A E : Type 0} (a b c : Option (List ℕ)) (bytes : List ℕ) (r : Result A E) → Appends a b bytes → Keeps b c → Writes a c bytes r
-Writes-kept a b c bytes (Ok x) wrote kept = Appends-kept a b c bytes wrote kept
-Writes-kept a b c bytes (Err e) wrote kept =
+pub Writes-kept : {A E : Type 0} (a b c : Option (List ℕ)) (before now : ℕ) (bytes : List ℕ) (r : Result A E) → Appends a b bytes → Keeps b c
+    → Writes (record { old = a; new = c; before = before; now = now }) bytes r
+Writes-kept a b c before now bytes (Ok x) wrote kept = Appends-kept a b c bytes wrote kept
+Writes-kept a b c before now bytes (Err e) wrote kept =
     subst (λ (l : List ℕ). AppendsFront a c l) (append-nil bytes) (AppendsFront-whole a c bytes [] (Appends-kept a b c bytes wrote kept))

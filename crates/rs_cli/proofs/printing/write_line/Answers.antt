@@ -16,4 +16,4 @@ returns-in_err-write_all-2-clause-writes g c =
 
 pub returns-clause-writes : goal.returns-clause-writes
 returns-clause-writes g c =
-    Writes-kept _ _ _ _ _ (Appends-trans _ _ _ c.args.text.now (10 ∷ []) c.in_ok-write_all.ensures.ok c.in_ok-write_all-2.ensures.ok) c.flush.ensures.bytes
+    Writes-kept _ _ _ (g.W.Sink.faults c.args.sink.now) (g.W.Sink.faults c.flush.new.self) _ _ (Appends-trans _ _ _ c.args.text.now (10 ∷ []) c.in_ok-write_all.ensures.ok c.in_ok-write_all-2.ensures.ok) c.flush.ensures.bytes
