@@ -1,5 +1,5 @@
-//! `rs`: the program. It makes the real objects, calls `run_here`, prints what is said about a status other than 0 on
-//! standard error, and ends with the status's code.
+//! `rs`: the program. It reads the words, makes the real objects, calls `run_here`, prints what is said about a status other
+//! than 0 on standard error, and ends with the status's code.
 #![tactic(auto)]
 
 mod entropy;
@@ -9,7 +9,7 @@ mod words;
 
 use entropy::OsEntropy;
 use rows::{close_file, open_file};
-use rs_cli::{Note, Status, needs_rows, run_here};
+use rs_cli::{Command, Note, RowsFile, Status, WordFault, read_command, rows_file, run_here};
 use rs_face::{Keeper, NoFailKeeper, NoMemory};
 use std::alloc::Global;
 use std::io::Write;
@@ -26,19 +26,19 @@ fn main(rt: HostRuntime) -> ExitCode {
     ExitCode::from(status.code)
 }
 
-/// Does what the words say over the file of rows. Words that want no rows don't open it, so that it isn't made.
+/// Does what the words say over the file of rows that they want. Words that want none open none, so that none is made.
 fn run(rt: &HostRuntime, words: &[String]) -> Status {
-    match needs_rows(rt.alloc(), words) {
-        Ok(true) => run_over_file(rt, words),
-        Ok(false) => run_over(rt, words, &mut NoFailKeeper::new(Vec::new(rt.alloc()))),
-        Err(NoMemory) => Note::NoMemory.status(),
+    let read = read_command(rt.alloc(), words);
+    match rows_file(&read) {
+        RowsFile::User => run_over_file(rt, read),
+        RowsFile::None => run_over(rt, read, &mut NoFailKeeper::new(Vec::new(rt.alloc()))),
     }
 }
 
-fn run_over_file(rt: &HostRuntime, words: &[String]) -> Status {
+fn run_over_file(rt: &HostRuntime, read: Result<Command<'_>, WordFault>) -> Status {
     match open_file(rt) {
         Ok(mut keeper) => {
-            let status = run_over(rt, words, &mut keeper);
+            let status = run_over(rt, read, &mut keeper);
             close_file(keeper);
             status
         }
@@ -46,14 +46,18 @@ fn run_over_file(rt: &HostRuntime, words: &[String]) -> Status {
     }
 }
 
-/// Does what the words say over the standard streams, the system's random bytes and this keeper.
-fn run_over<K: Keeper>(rt: &HostRuntime, words: &[String], keeper: &mut K) -> Status {
+/// Does what was read over the standard streams, the system's random bytes and this keeper.
+fn run_over<K: Keeper>(
+    rt: &HostRuntime,
+    read: Result<Command<'_>, WordFault>,
+    keeper: &mut K,
+) -> Status {
     let mut source = StdSource::new(rt.stdin());
     let mut sink = StdSink::new(rt.stdout());
     let mut entropy = OsEntropy::new(rt);
     run_here(
         rt.alloc(),
-        words,
+        read,
         &mut source,
         &mut sink,
         keeper,

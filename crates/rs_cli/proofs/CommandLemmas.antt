@@ -4,13 +4,13 @@ use Rattle.std.specs.Str.{bytes_eq}
 use Rattle.std.proofs.lemmas.List.{take_all}
 use Rattle.std.proofs.lemmas.Slice.Eq.{bytes_eq-Decides}
 use Rattle.rs_path.specs.Paths.{is_nil}
-use Rattle.rs_front.specs.Accounts.{is_user}
+use Rattle.rs_path.specs.Users.{is_user}
 use Rattle.rs_cli.specs.declared.command.Command.{Command}
 use Rattle.rs_cli.specs.declared.command.Command.TheVariants.{Help, Version}
 use Rattle.rs_cli.specs.declared.command.WordFault.{WordFault}
 use Rattle.rs_cli.specs.declared.command.WordFault.TheVariants.{Word, NoMemory}
-use Rattle.rs_cli.specs.Forms.{Form, forms, is_token, is_scopes, is_number, first_wrong}
-use Rattle.rs_cli.specs.Commands.{AsksFor, ReadsOn, ReadsAlone, Reads}
+use Rattle.rs_cli.specs.Forms.{Form, forms, spells_token, spells_scopes, is_number, first_wrong}
+use Rattle.rs_cli.specs.Commands.{AsksFor, ReadsCommandOn, ReadsAlone, ReadsCommand}
 
 -- the one form goes on with the word, or not
 pub one_on : (takes : List ℕ → Bool) (i : ℕ) (places : Form) (word : List ℕ) (words : List (List ℕ)) → takes word ≡ true
@@ -39,23 +39,23 @@ both_off takes i places others word words is =
 -- words were read on after one more
 pub reads_on : (i j : ℕ) (going next : List Form) (front longer : List (List ℕ)) (result : Result Command WordFault) (word : List ℕ) (words : List (List ℕ))
     → first_wrong i going (word ∷ words) ≡ first_wrong j next words → front ++ (word ∷ words) ≡ longer ++ words
-    → ReadsOn j next longer result words → ReadsOn i going front result (word ∷ words)
+    → ReadsCommandOn j next longer result words → ReadsCommandOn i going front result (word ∷ words)
 reads_on i j going next front longer (Ok command) word words on same read = (on ∙ read.0, subst (AsksFor command) (sym same) read.1)
 reads_on i j going next front longer (Err (Word at)) word words on same read = on ∙ read
 reads_on i j going next front longer (Err NoMemory) word words on same read = tt
 
 -- the names of the commands
 pub pipe_first : (result : Result Command WordFault) (words : List (List ℕ))
-    → ReadsOn 1 ((is_user ∷ is_token ∷ is_scopes ∷ []) ∷ (is_user ∷ is_token ∷ is_scopes ∷ is_number ∷ []) ∷ []) (codes "pipe" ∷ []) result words
-    → Reads result (codes "pipe" ∷ words)
+    → ReadsCommandOn 1 ((is_user ∷ spells_token ∷ spells_scopes ∷ []) ∷ (is_user ∷ spells_token ∷ spells_scopes ∷ is_number ∷ []) ∷ []) (codes "pipe" ∷ []) result words
+    → ReadsCommand result (codes "pipe" ∷ words)
 pipe_first result words = reads_on 0 1 forms _ [] (codes "pipe" ∷ []) result (codes "pipe") words refl refl
 
 pub grant_first : (result : Result Command WordFault) (words : List (List ℕ))
-    → ReadsOn 1 ((is_scopes ∷ []) ∷ []) (codes "grant" ∷ []) result words → Reads result (codes "grant" ∷ words)
+    → ReadsCommandOn 1 ((spells_scopes ∷ []) ∷ []) (codes "grant" ∷ []) result words → ReadsCommand result (codes "grant" ∷ words)
 grant_first result words = reads_on 0 1 forms _ [] (codes "grant" ∷ []) result (codes "grant") words refl refl
 
 pub revoke_first : (result : Result Command WordFault) (words : List (List ℕ))
-    → ReadsOn 1 ((is_token ∷ []) ∷ []) (codes "revoke" ∷ []) result words → Reads result (codes "revoke" ∷ words)
+    → ReadsCommandOn 1 ((spells_token ∷ []) ∷ []) (codes "revoke" ∷ []) result words → ReadsCommand result (codes "revoke" ∷ words)
 revoke_first result words = reads_on 0 1 forms _ [] (codes "revoke" ∷ []) result (codes "revoke") words refl refl
 
 -- no form goes on with another first word
@@ -82,7 +82,7 @@ whole f (word ∷ words) first name slice text test some at named tested text_is
     ap (λ (t : List ℕ). t ∷ map f words) begins ∙ ap (λ (ws : List _). text ∷ map f ws) (sym rest)
 
 -- words that stand alone
-pub help_first : (result : Result Command WordFault) (words : List (List ℕ)) → ReadsAlone result Help words → Reads result (codes "--help" ∷ words)
+pub help_first : (result : Result Command WordFault) (words : List (List ℕ)) → ReadsAlone result Help words → ReadsCommand result (codes "--help" ∷ words)
 help_first (Ok command) words (is, ends) = (
   ap (λ (ws : List (List ℕ)). first_wrong 1 ([] ∷ []) ws) ends,
   subst (λ (read : Command). AsksFor read (codes "--help" ∷ words)) (sym is) (ap (λ (ws : List (List ℕ)). codes "--help" ∷ ws) ends),
@@ -90,7 +90,7 @@ help_first (Ok command) words (is, ends) = (
 help_first (Err (Word index)) words read = read
 help_first (Err NoMemory) words read = tt
 
-pub version_first : (result : Result Command WordFault) (words : List (List ℕ)) → ReadsAlone result Version words → Reads result (codes "--version" ∷ words)
+pub version_first : (result : Result Command WordFault) (words : List (List ℕ)) → ReadsAlone result Version words → ReadsCommand result (codes "--version" ∷ words)
 version_first (Ok command) words (is, ends) = (
   ap (λ (ws : List (List ℕ)). first_wrong 1 ([] ∷ []) ws) ends,
   subst (λ (read : Command). AsksFor read (codes "--version" ∷ words)) (sym is) (ap (λ (ws : List (List ℕ)). codes "--version" ∷ ws) ends),

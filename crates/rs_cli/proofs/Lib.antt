@@ -1,5 +1,5 @@
-pub mod SendLemmas
-pub mod CommandLemmas
-pub mod NumberLemmas
-pub mod GrantLemmas
-pub mod PipeLemmas
+mod CommandLemmas
+mod NumberLemmas
+mod GrantLemmas
+mod PipeLemmas
+mod CompletenessLemmas

@@ -7,7 +7,7 @@ use Rattle.std.specs.Str.Parse.{digits_value, ParsesUnsigned}
 use Rattle.std.proofs.lemmas.Bool.{and_parts}
 use Rattle.std.proofs.lemmas.Bool.Decides.{nat_tests}
 use Rattle.std.proofs.lemmas.Str.Parse.{IsNumeralModel, numerals_by_value, parse_digits}
-use Rattle.rs_cli.specs.Numbers.{is_numeral, number_of}
+use Rattle.rs_cli.specs.Numbers.{is_numeral, number_spelled}
 
 own : IsNumeralModel (λ ds. list_all is_ascii_digit ds ≡ true) (digits_value 10)
 own = numerals_by_value _ (search rules)
@@ -27,7 +27,7 @@ none true b n is = ap (λ (c : Bool). cond c (Some n) None) is
 none false b n is = refl
 
 -- a numeral that isn't read
-refused : {E : Type 0} (word : List ℕ) (e : E) → ParsesUnsigned 64 10 word (Err e) → is_numeral word ≡ true → number_of word ≡ None
+refused : {E : Type 0} (word : List ℕ) (e : E) → ParsesUnsigned 64 10 word (Err e) → is_numeral word ≡ true → number_spelled word ≡ None
 refused word e parsed numeral =
     let parts = and_parts (list_all is_ascii_digit word) _ numeral in
     let long = and_parts (nat_le 1 (length word)) _ parts.1 in
@@ -35,5 +35,5 @@ refused word e parsed numeral =
     none (is_numeral word) _ (digits_value 10 word)
     (decide_false (nat_lt (digits_value 10 word) (2 ^ 64)) (λ is. never (some (length word) long.0, less _ _ is)))
 
-pub too_large : {E : Type 0} (word : List ℕ) (r : Result ℕ E) (e : E) → r ≡ Err e → ParsesUnsigned 64 10 word r → is_numeral word ≡ true → number_of word ≡ None
+pub too_large : {E : Type 0} (word : List ℕ) (r : Result ℕ E) (e : E) → r ≡ Err e → ParsesUnsigned 64 10 word r → is_numeral word ≡ true → number_spelled word ≡ None
 too_large word r e is parsed numeral = refused word e (subst (λ result. ParsesUnsigned 64 10 word result) is parsed) numeral

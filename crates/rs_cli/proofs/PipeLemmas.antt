@@ -5,18 +5,18 @@ use Rattle.rs_rules.specs.Contents.{Contents}
 use Rattle.rs_rules.specs.Histories.{History, IsFront}
 use Rattle.rs_wire.specs.declared.message.RequestMessage.{RequestMessage}
 use Rattle.rs_user.specs.declared.state.UserState.{UserState}
-use Rattle.rs_user.specs.Openings.{Spells}
-use Rattle.rs_front.proofs.DueLemmas.{front_refl, front_trans, goes_later}
+use Rattle.rs_user.specs.Openings.{AreToldRows}
+use Rattle.rs_front.proofs.Cited.{front_refl, front_trans, goes_later}
 use Rattle.rs_front.specs.declared.account.Account.{Account}
 use Rattle.rs_front.specs.declared.serve.End.{End}
 use Rattle.rs_front.specs.declared.serve.End.TheVariants.{Closed, Limit, ReadFault, WriteFault, NoMemory, BadMessage}
-use Rattle.rs_front.specs.Courses.{Course as StreamCourse}
 use Rattle.rs_front.specs.Due.{Users, Outcome, GoesAlong, HasFaults, is_unkept}
 use Rattle.rs_front.specs.Ends.{Served, EndsSo, Serves}
 use Rattle.rs_front.specs.Requests.{asked_of}
 use Rattle.rs_cli.specs.declared.note.Note.{Note}
-use Rattle.rs_cli.specs.Grants.{Course}
-use Rattle.rs_cli.specs.Pipes.{account_of_user, users_of, stream, note_of_end, Pipes, PipeEnds, IsReady, OpensGranted}
+use Rattle.rs_cli.specs.Causes.{note_of_end}
+use Rattle.rs_face.specs.Courses.{Course, course}
+use Rattle.rs_cli.specs.Pipes.{account_of_user, users_of, Pipes, PipeEnds, IsOpenState, OpensGranted}
 
 -- ---- histories that go on
 
@@ -30,7 +30,7 @@ along_later users accounts (m ∷ ms) (o ∷ os) old new user along =
     (along_later users accounts ms os along.0 new user along.2)
 
 -- over a connection each history goes on
-pub served_later : (users : Users) (accounts : List Account) (source sink : StreamCourse) (old : ℕ → History) (before now : ℕ) (end : End) (user : ℕ)
+pub served_later : (users : Users) (accounts : List Account) (source sink : Course (List ℕ)) (old : ℕ → History) (before now : ℕ) (end : End) (user : ℕ)
     → Serves users accounts source sink old before now end → IsFront (old user) (users.history user)
 served_later users accounts source sink old before now end user serves =
     along_later users accounts serves.0.messages serves.0.outcomes old users.history user serves.0.along
@@ -43,7 +43,7 @@ faults_since os earlier before now sooner has =
     omega (arith, sooner, a)
 
 -- the same connection, counted from an earlier time on
-again : {users : Users} {accounts : List Account} {source sink : StreamCourse} {old : ℕ → History} (earlier before now : ℕ) → earlier ≤ before
+again : {users : Users} {accounts : List Account} {source sink : Course (List ℕ)} {old : ℕ → History} (earlier before now : ℕ) → earlier ≤ before
     → Served users accounts source sink old before now → Served users accounts source sink old earlier now
 again earlier before now sooner served = record {
   read = served.read;
@@ -61,7 +61,7 @@ again earlier before now sooner served = record {
   open_so_far = served.open_so_far;
 }
 
-ends_again : (users : Users) (accounts : List Account) (source sink : StreamCourse) (old : ℕ → History) (earlier before now : ℕ) (sooner : earlier ≤ before)
+ends_again : (users : Users) (accounts : List Account) (source sink : Course (List ℕ)) (old : ℕ → History) (earlier before now : ℕ) (sooner : earlier ≤ before)
     (served : Served users accounts source sink old before now) (end : End)
     → EndsSo users accounts source sink old before now served end
     → EndsSo users accounts source sink old earlier now (again earlier before now sooner served) end
@@ -73,7 +73,7 @@ ends_again users accounts source sink old earlier before now sooner served Write
 ends_again users accounts source sink old earlier before now sooner served NoMemory ends = ends
 ends_again users accounts source sink old earlier before now sooner served (BadMessage f) ends = ends
 
-serves_since : (users : Users) (accounts : List Account) (source sink : StreamCourse) (old : ℕ → History) (earlier before now : ℕ) (end : End) → earlier ≤ before
+serves_since : (users : Users) (accounts : List Account) (source sink : Course (List ℕ)) (old : ℕ → History) (earlier before now : ℕ) (end : End) → earlier ≤ before
     → Serves users accounts source sink old before now end → Serves users accounts source sink old earlier now end
 serves_since users accounts source sink old earlier before now end sooner serves =
     (again earlier before now sooner serves.0, ends_again users accounts source sink old earlier before now sooner serves.0 end serves.1)
@@ -86,7 +86,7 @@ pipes_since : (user : List ℕ) (first : History) (quota : ℕ) (old middle new 
 pipes_since user first quota old middle new earlier before now source sink note sooner pipes = record {
   histories = pipes.histories;
   end = pipes.end;
-  serves = serves_since (users_of pipes.histories quota) (account_of_user user ∷ []) (stream source) (stream sink) (λ user. first) earlier before now pipes.end sooner pipes.serves;
+  serves = serves_since (users_of pipes.histories quota) (account_of_user user ∷ []) source sink (λ user. first) earlier before now pipes.end sooner pipes.serves;
   goes_on = pipes.goes_on;
   rows_are = pipes.rows_are;
   said = pipes.said;
@@ -97,13 +97,13 @@ pipes_since user first quota old middle new earlier before now source sink note 
 -- a connection over the one user's desk
 pub desk_pipes : (user : List ℕ) (first : History) (quota : ℕ) (accounts : List Account) (rows : Course (List (List ℕ))) (source sink : Course (List ℕ)) (end : End)
     (note : Note) (histories : ℕ → History) → accounts ≡ account_of_user user ∷ []
-    → Serves (users_of histories quota) accounts (stream source) (stream sink) (λ user. first) rows.before rows.now end
-    → Spells rows.new (histories 0) → note ≡ note_of_end end → Pipes user first quota rows source sink note
+    → Serves (users_of histories quota) accounts source sink (λ user. first) rows.before rows.now end
+    → AreToldRows rows.new (histories 0) → note ≡ note_of_end end → Pipes user first quota rows source sink note
 desk_pipes user first quota accounts rows source sink end note histories are serves spells said = record {
   histories = histories;
   end = end;
-  serves = subst (λ (list : List Account). Serves (users_of histories quota) list (stream source) (stream sink) (λ user. first) rows.before rows.now end) are serves;
-  goes_on = served_later (users_of histories quota) accounts (stream source) (stream sink) (λ user. first) rows.before rows.now end 0 serves;
+  serves = subst (λ (list : List Account). Serves (users_of histories quota) list source sink (λ user. first) rows.before rows.now end) are serves;
+  goes_on = served_later (users_of histories quota) accounts source sink (λ user. first) rows.before rows.now end 0 serves;
   rows_are = spells;
   said = said;
 }
@@ -122,13 +122,13 @@ module _ {T R : Type 0} (tree_stands : T → Contents → Type 0) where
   pub pipe_ends : (user token : List ℕ) (scopes : List Scope) (quota : ℕ) (old middle new : Option (List (List ℕ))) (earlier before now count : ℕ) (state : UserState T R)
       (source sink : Course (List ℕ)) (note : Note) → earlier ≤ before
       → OpensGranted tree_stands token scopes (record { old = old; new = middle; before = earlier; now = before }) count quota state
-      → ((h : History) → IsReady tree_stands middle count state.quota state h
+      → ((h : History) → IsOpenState tree_stands middle count state.quota state h
       → Pipes user h state.quota (record { old = middle; new = new; before = before; now = now }) source sink note)
       → PipeEnds user token scopes quota (record { old = old; new = new; before = earlier; now = now }) source sink note
   pipe_ends user token scopes quota old middle new earlier before now count state source sink note sooner opens serves =
       let ready = opens.granted.ready in
       let first = opens.granted.first in
-      let mine : IsReady tree_stands middle count state.quota state first = record {
+      let mine : IsOpenState tree_stands middle count state.quota state first = record {
         stands = ready.stands;
         spells = ready.spells;
         counted = ready.counted;
@@ -148,8 +148,8 @@ module _ {T R : Type 0} (tree_stands : T → Contents → Type 0) where
   abbrev pub PipesOver : {K : Type 0} (rows : K → Option (List (List ℕ))) (faults count : K → ℕ) (user : List ℕ) (h : History) (source sink : Course (List ℕ)) (note : Note)
       → UserState T R → K → K → Type 0
   PipesOver rows faults count user h source sink note state keeper last =
-      IsReady tree_stands (rows keeper) (count keeper) state.quota state h
-      → Pipes user h state.quota (record { old = rows keeper; new = rows last; before = faults keeper; now = faults last }) source sink note
+      IsOpenState tree_stands (rows keeper) (count keeper) state.quota state h
+      → Pipes user h state.quota (course rows faults keeper last) source sink note
 
   -- the same of what a desk borrows
   pub pipes_borrowed : {K : Type 0} (rows : K → Option (List (List ℕ))) (faults count : K → ℕ) (user : List ℕ) (h : History) (source sink : Course (List ℕ)) (note : Note)

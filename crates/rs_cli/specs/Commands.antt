@@ -1,14 +1,16 @@
 -- How words are read as a command.
-use Rattle.std.specs.Prelude.{◌≡◌, ℕ, List, [], ◌∷◌, ◌++◌, Bool, true, false, Option, Some, None, Result, Ok, Err, codes}
+use Rattle.std.specs.Prelude.{◌≡◌, ℕ, List, [], ◌∷◌, ◌++◌, false, Option, Some, None, Result, Ok, Err, codes}
 use Rattle.rs_scope.specs.declared.scope.Scope.{Scope}
 use Rattle.rs_scope.specs.Tokens.{token_reading}
 use Rattle.rs_scope.specs.ScopeReadings.{scopes_reading}
 use Rattle.rs_cli.specs.declared.command.Command.{Command}
 use Rattle.rs_cli.specs.declared.command.Command.TheVariants.{Pipe, Grant, Revoke, Help, Version}
+use Rattle.rs_cli.specs.declared.command.RowsFile.{RowsFile}
+use Rattle.rs_cli.specs.declared.command.RowsFile.TheVariants as file
 use Rattle.rs_cli.specs.declared.command.WordFault.{WordFault}
 use Rattle.rs_cli.specs.declared.command.WordFault.TheVariants.{Word, NoMemory}
-use Rattle.rs_cli.specs.Forms.{Form, forms, first_wrong, is_scopes, is_number}
-use Rattle.rs_cli.specs.Numbers.{number_of}
+use Rattle.rs_cli.specs.Forms.{Form, forms, first_wrong, spells_scopes, is_number}
+use Rattle.rs_cli.specs.Numbers.{number_spelled}
 
 -- the quota where none is given, in bytes
 abbrev pub default_quota : ℕ
@@ -17,7 +19,7 @@ default_quota = 1073741824
 -- the quota that the words after SCOPES give
 abbrev pub quota_of : List (List ℕ) → Option ℕ
 quota_of [] = Some default_quota
-quota_of (word ∷ []) = number_of word
+quota_of (word ∷ []) = number_spelled word
 quota_of (word ∷ other ∷ others) = None
 
 -- the words are `pipe`, the user, the token, the scopes and maybe a quota
@@ -50,31 +52,36 @@ AsksFor (Revoke token) words = IsRevoke token words
 AsksFor Help words = words ≡ codes "--help" ∷ []
 AsksFor Version words = words ≡ codes "--version" ∷ []
 
--- the command is on the rows of a user
-abbrev pub is_on_rows : Command → Bool
-is_on_rows (Pipe serving) = true
-is_on_rows (Grant scopes) = true
-is_on_rows (Revoke token) = true
-is_on_rows Help = false
-is_on_rows Version = false
+-- the file of rows that the command wants
+abbrev pub file_of : Command → RowsFile
+file_of (Pipe serving) = file.User
+file_of (Grant scopes) = file.User
+file_of (Revoke token) = file.User
+file_of Help = file.None
+file_of Version = file.None
+
+-- the same of words that were read; those that are in no form want none
+abbrev pub rows_file_of : Result Command WordFault → RowsFile
+rows_file_of (Ok command) = file_of command
+rows_file_of (Err fault) = file.None
 
 -- words that follow so many others were read, where these forms go on: they ask for the command with those others in front;
 -- or the index of the first wrong one is told; or memory ran out
-abbrev pub ReadsOn : ℕ → List Form → List (List ℕ) → Result Command WordFault → List (List ℕ) → Type 0
-ReadsOn count going front (Ok command) words = (first_wrong count going words ≡ None) × AsksFor command (front ++ words)
-ReadsOn count going front (Err (Word index)) words = first_wrong count going words ≡ Some index
-ReadsOn count going front (Err NoMemory) words = Unit {0}
+abbrev pub ReadsCommandOn : ℕ → List Form → List (List ℕ) → Result Command WordFault → List (List ℕ) → Type 0
+ReadsCommandOn count going front (Ok command) words = (first_wrong count going words ≡ None) × AsksFor command (front ++ words)
+ReadsCommandOn count going front (Err (Word index)) words = first_wrong count going words ≡ Some index
+ReadsCommandOn count going front (Err NoMemory) words = Unit {0}
 
 -- the words were read as a command
-abbrev pub Reads : Result Command WordFault → List (List ℕ) → Type 0
-Reads result words = ReadsOn 0 forms [] result words
+abbrev pub ReadsCommand : Result Command WordFault → List (List ℕ) → Type 0
+ReadsCommand result words = ReadsCommandOn 0 forms [] result words
 
 -- ---- parts
 
 -- the scopes that the word at the index spells, or that index
 abbrev pub ReadsScopes : Result (List Scope) WordFault → List ℕ → ℕ → Type 0
 ReadsScopes (Ok scopes) word index = scopes_reading word ≡ Ok scopes
-ReadsScopes (Err (Word at)) word index = (at ≡ index) × (is_scopes word ≡ false)
+ReadsScopes (Err (Word at)) word index = (at ≡ index) × (spells_scopes word ≡ false)
 ReadsScopes (Err NoMemory) word index = Unit {0}
 
 -- the quota that the words after SCOPES give

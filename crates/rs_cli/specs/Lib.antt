@@ -1,9 +1,12 @@
+pub mod Outsides
 pub mod Numbers
 pub mod Forms
 pub mod Commands
 pub mod Notes
+pub mod Causes
 pub mod Grants
 pub mod Asking
 pub mod Pipes
 pub mod Texts
 pub mod Runs
+pub mod Completeness

@@ -10,5 +10,5 @@ is_numeral word = list_all is_ascii_digit word && (nat_le 1 (length word) && (na
     && (length word == 1 || not (slice_index_or word 0 48 == 48))))
 
 -- the number that the word spells, at most the greatest of 64 bits; or none
-abbrev pub number_of : List ℕ → Option ℕ
-number_of word = if is_numeral word && nat_lt (digits_value 10 word) (2 ^ 64) then Some (digits_value 10 word) else None
+abbrev pub number_spelled : List ℕ → Option ℕ
+number_spelled word = if is_numeral word && nat_lt (digits_value 10 word) (2 ^ 64) then Some (digits_value 10 word) else None

@@ -10,22 +10,22 @@ use Rattle.rs_rules.specs.Tokens.{scopes_of}
 use Rattle.rs_rules.specs.Answers.{answer}
 use Rattle.rs_user.specs.declared.state.UserState.{UserState}
 use Rattle.rs_user.specs.Standing.{StandsFor}
-use Rattle.rs_user.specs.Openings.{Spells}
+use Rattle.rs_user.specs.Openings.{AreToldRows}
 use Rattle.rs_front.specs.declared.account.Account.{Account}
 use Rattle.rs_front.specs.declared.serve.End.{End}
-use Rattle.rs_front.specs.declared.serve.End.TheVariants as end
-use Rattle.rs_front.specs.Courses.{Course as StreamCourse}
 use Rattle.rs_front.specs.Due.{Users}
 use Rattle.rs_front.specs.Ends.{Serves}
 use Rattle.rs_cli.specs.declared.note.Note.{Note}
-use Rattle.rs_cli.specs.declared.note.Note.TheVariants as note
-use Rattle.rs_cli.specs.Grants.{Course, IsSame, IsUntouched, SpelledBy, NotOpened, Refused}
+use Rattle.rs_cli.specs.declared.request_fault.RequestFault.{RequestFault}
+use Rattle.rs_cli.specs.Causes.{note_of_end}
+use Rattle.rs_face.specs.Courses.{Course, IsSame, IsUntouched}
+use Rattle.rs_cli.specs.Grants.{SpelledBy, NotOpened, RequestFails, Refused}
 
 -- ---- the history that is served
 
 -- it is the one that the rows spell where the token is granted in it; else the Grant, which that one allows, follows it
-abbrev pub BeginsWith : History → List ℕ → List Scope → ℕ → History → Type 0
-BeginsWith h token scopes quota first =
+abbrev pub WithGrant : History → List ℕ → List Scope → ℕ → History → Type 0
+WithGrant h token scopes quota first =
     ((is_some (scopes_of h token) ≡ true) × (first ≡ h))
     ⊎ ((answer h quota (Grant token scopes) ≡ reply.Granted)
     × (first ≡ with_entry h (record { who = 1; what = GrantRecord token scopes })))
@@ -47,36 +47,23 @@ account_of_user user = record { name = user; salt = []; secret = None }
 abbrev pub users_of : (ℕ → History) → ℕ → Users
 users_of histories quota = record { history = histories; quota = λ user. quota; me = λ user. 1; alone = true }
 
--- a source or a sink, as a connection has it
-abbrev pub stream : Course (List ℕ) → StreamCourse
-stream course = record { old = course.old; new = course.new; before = course.before; now = course.now }
-
--- what is said of the end of a connection
-abbrev pub note_of_end : End → Note
-note_of_end end.Closed = note.Empty
-note_of_end end.Limit = note.Limit
-note_of_end end.ReadFault = note.SourceFailed
-note_of_end end.WriteFault = note.SinkFailed
-note_of_end end.NoMemory = note.NoMemory
-note_of_end (end.BadMessage f) = note.Message f.place
-
 -- a connection over the user's history, which goes on from `first`; in the end the rows are those of its last state, and are
 -- opened as that
 pub record Pipes (user : List ℕ) (first : History) (quota : ℕ) (rows : Course (List (List ℕ))) (source sink : Course (List ℕ)) (note : Note) : Type 0 where
   pub histories : ℕ → History
   pub end : End
-  pub serves : Serves (users_of histories quota) (account_of_user user ∷ []) (stream source) (stream sink) (λ user. first) rows.before rows.now end
+  pub serves : Serves (users_of histories quota) (account_of_user user ∷ []) source sink (λ user. first) rows.before rows.now end
   pub goes_on : IsFront first (histories 0)
-  pub rows_are : Spells rows.new (histories 0)
+  pub rows_are : AreToldRows rows.new (histories 0)
   pub said : note ≡ note_of_end end
 
 -- the source was served to the sink, from the history that the rows spell on
 pub record Begun (user token : List ℕ) (scopes : List Scope) (quota : ℕ) (rows : Course (List (List ℕ))) (source sink : Course (List ℕ)) (note : Note) : Type 0 where
   pub history : History
   pub spelled : SpelledBy rows.old history
-  pub rows_were : Spells rows.old history
+  pub rows_were : AreToldRows rows.old history
   pub first : History
-  pub begins : BeginsWith history token scopes quota first
+  pub begins : WithGrant history token scopes quota first
   pub pipes : Pipes user first quota rows source sink note
 
 -- ---- `pipe`
@@ -92,29 +79,29 @@ PipeEnds user token scopes quota rows source sink note =
 
 module _ {T R : Type 0} (tree_stands : T → Contents → Type 0) where
   -- the state stands for the history, whose rows are kept, and counts them
-  pub record IsReady (rows : Option (List (List ℕ))) (count quota : ℕ) (state : UserState T R) (h : History) : Type 0 where
+  pub record IsOpenState (rows : Option (List (List ℕ))) (count quota : ℕ) (state : UserState T R) (h : History) : Type 0 where
     pub stands : StandsFor tree_stands state h
-    pub spells : Spells rows h
+    pub spells : AreToldRows rows h
     pub counted : count ≡ state.rows
     pub quota_is : state.quota ≡ quota
 
   -- the state stands for the history with the Grant where that was missing
   pub record IsGranted (h : History) (token : List ℕ) (scopes : List Scope) (rows : Option (List (List ℕ))) (count quota : ℕ) (state : UserState T R) : Type 0 where
     pub first : History
-    pub begins : BeginsWith h token scopes quota first
-    pub ready : IsReady rows count quota state first
+    pub begins : WithGrant h token scopes quota first
+    pub ready : IsOpenState rows count quota state first
 
   -- the token was granted where that was missing; or why not, and then the rows are as before
-  abbrev pub GrantsWhereMissing : History → List ℕ → List Scope → Course (List (List ℕ)) → ℕ → ℕ → UserState T R → Result (Unit {0}) Note → Type 0
+  abbrev pub GrantsWhereMissing : History → List ℕ → List Scope → Course (List (List ℕ)) → ℕ → ℕ → UserState T R → Result (Unit {0}) RequestFault → Type 0
   GrantsWhereMissing h token scopes rows count quota state (Ok done) = IsGranted h token scopes rows.new count quota state
-  GrantsWhereMissing h token scopes rows count quota state (Err said) =
-      IsSame rows × (scopes_of h token ≡ None) × Refused h (Grant token scopes) token rows said
+  GrantsWhereMissing h token scopes rows count quota state (Err fault) =
+      IsSame rows × (scopes_of h token ≡ None) × RequestFails h (Grant token scopes) token rows fault
 
   -- the rows were opened, and the token is granted
   pub record OpensGranted (token : List ℕ) (scopes : List Scope) (rows : Course (List (List ℕ))) (count quota : ℕ) (state : UserState T R) : Type 0 where
     pub history : History
     pub spelled : SpelledBy rows.old history
-    pub rows_were : Spells rows.old history
+    pub rows_were : AreToldRows rows.old history
     pub granted : IsGranted history token scopes rows.new count quota state
 
   -- the rows were opened and the token is granted; or why not, and then the rows are as before

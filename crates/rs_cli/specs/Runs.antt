@@ -6,23 +6,28 @@ use Rattle.rs_cli.specs.declared.note.Note.{Note}
 use Rattle.rs_cli.specs.declared.note.Note.TheVariants.{Word, NoMemory}
 use Rattle.rs_cli.specs.Forms.{wrong_word}
 use Rattle.rs_cli.specs.Commands.{AsksFor}
-use Rattle.rs_cli.specs.Grants.{Course, IsUntouched, Prints, line_of, RevokeEnds, GrantEnds}
+use Rattle.rs_face.specs.Courses.{IsUntouched}
+use Rattle.rs_cli.specs.Outsides.{Outside, IsAsItWas}
+use Rattle.rs_cli.specs.Grants.{Prints, line_of, RevokeEnds, GrantEnds}
 use Rattle.rs_cli.specs.Pipes.{PipeEnds}
 use Rattle.rs_cli.specs.Texts.{help_text, version_text}
 
-module _ (rows : Course (List (List ℕ))) (drawn source sink : Course (List ℕ)) where
+module _ (out : Outside) where
+  -- a text is printed, and nothing else is done
+  pub record PrintsText (text : List ℕ) (note : Note) : Type 0 where
+    pub rows : IsUntouched out.rows
+    pub words : IsUntouched out.words
+    pub source : IsUntouched out.source
+    pub prints : Prints out.sink (line_of text) note
+
   -- what a command does, and how it ends
   abbrev pub Does : Command → Note → Type 0
   Does (Pipe serving) note =
-      IsUntouched drawn × PipeEnds serving.user.now serving.token serving.scopes serving.quota rows source sink note
-  Does (Grant scopes) note = IsUntouched source × GrantEnds scopes rows drawn sink note
-  Does (Revoke token) note = IsUntouched source × IsUntouched drawn × RevokeEnds token rows sink note
-  Does Help note = IsUntouched rows × IsUntouched drawn × IsUntouched source × Prints sink (line_of help_text) note
-  Does Version note = IsUntouched rows × IsUntouched drawn × IsUntouched source × Prints sink (line_of version_text) note
-
-  -- nothing was done
-  abbrev pub DoesNothing : Type 0
-  DoesNothing = IsUntouched rows × IsUntouched drawn × IsUntouched source × IsUntouched sink
+      IsUntouched out.words × PipeEnds serving.user.now serving.token serving.scopes serving.quota out.rows out.source out.sink note
+  Does (Grant scopes) note = IsUntouched out.source × GrantEnds scopes out.rows out.words out.sink note
+  Does (Revoke token) note = IsUntouched out.source × IsUntouched out.words × RevokeEnds token out.rows out.sink note
+  Does Help note = PrintsText help_text note
+  Does Version note = PrintsText version_text note
 
   -- the words ask for a command, and it was done
   pub record DoesCommand (words : List (List ℕ)) (note : Note) : Type 0 where
@@ -39,4 +44,4 @@ module _ (rows : Course (List (List ℕ))) (drawn source sink : Course (List ℕ
 
   -- the words were done; or they are wrong, or memory ran out over them, and nothing was done
   abbrev pub Runs : List (List ℕ) → Note → Type 0
-  Runs words note = DoesCommand words note ⊎ ((IsWrong words note ⊎ (note ≡ NoMemory)) × DoesNothing)
+  Runs words note = DoesCommand words note ⊎ ((IsWrong words note ⊎ (note ≡ NoMemory)) × IsAsItWas out)

@@ -27,6 +27,30 @@ pub enum Command<'a> {
     Version,
 }
 
+impl Command<'_> {
+    ghost use Rattle.std.specs.Prelude.{◌≡◌};
+    ghost use Rattle.rs_cli.specs.Commands.{file_of};
+
+    /// Which file of rows the command wants.
+    pub fn rows_file(&self) -> RowsFile
+        ensures file { result ≡ file_of self.now }
+    {
+        match self {
+            Command::Pipe { .. } | Command::Grant { .. } | Command::Revoke { .. } => RowsFile::User,
+            Command::Help | Command::Version => RowsFile::None,
+        }
+    }
+}
+
+/// A file of rows, by what it is of.
+#[derive(Clone, Copy, Debug, PartialEq, Eq)]
+pub enum RowsFile {
+    /// No file.
+    None,
+    /// The rows of a user.
+    User,
+}
+
 /// Why words are no command.
 #[derive(Debug, Clone, Copy, PartialEq, Eq)]
 pub enum WordFault {

@@ -2,27 +2,24 @@
 
 ghost use Rattle.std.specs.Prelude.{◌≡◌, ℕ, ◌∷◌, [], List, Some, map, codes, string_bytes};
 ghost use Rattle.rs_scope.specs.Tokens.{token_reading};
-ghost use Rattle.std.specs.List.{list_all};
-ghost use Rattle.rs_front.specs.Accounts.{is_user, is_user_byte};
-ghost use Rattle.rs_cli.specs.Forms.{is_token, is_scopes, is_number};
-ghost use Rattle.rs_cli.specs.Commands.{Reads, ReadsOn, ReadsQuota, ReadsAlone, ReadsScopes, Ends};
+ghost use Rattle.rs_path.specs.Users.{is_user};
+ghost use Rattle.rs_cli.specs.Forms.{spells_token, spells_scopes, is_number};
+ghost use Rattle.rs_cli.specs.Commands.{ReadsCommand, ReadsCommandOn, ReadsQuota, ReadsAlone, ReadsScopes, Ends};
 
 use crate::command::{Command, Serving, WordFault};
 use crate::number::read_number;
+use rs_path::is_user;
 use rs_scope::{ScopeFault, Scopes, Token};
 use std::alloc::Global;
 
 /// The quota where none is given, in bytes.
 pub const DEFAULT_QUOTA: u64 = 1_073_741_824;
 
-/// The most bytes of a user's name.
-const MAX_USER: usize = 32;
-
 /// Reads the words, without the program's name, as a command. A word is wrong where none of the forms goes on with the
 /// words up to it; the first wrong word is told by its index, counted from 0. Where the words begin a form and none ends
 /// there, this is the number of words.
 pub fn read_command<'a>(alloc: Global, words: &'a [String]) -> Result<Command<'a>, WordFault>
-    ensures read { Reads result (map string_bytes words.now) }
+    ensures read { ReadsCommand result (map string_bytes words.now) }
 {
     let [word, others @ ..] = words else {
         return Err(WordFault::Word { index: 0 });
@@ -45,7 +42,7 @@ pub fn read_command<'a>(alloc: Global, words: &'a [String]) -> Result<Command<'a
 
 // The words after `pipe`.
 fn read_user<'a>(alloc: Global, words: &'a [String]) -> Result<Command<'a>, WordFault>
-    ensures read { ReadsOn 1 ((is_user ∷ is_token ∷ is_scopes ∷ []) ∷ (is_user ∷ is_token ∷ is_scopes ∷ is_number ∷ []) ∷ [])
+    ensures read { ReadsCommandOn 1 ((is_user ∷ spells_token ∷ spells_scopes ∷ []) ∷ (is_user ∷ spells_token ∷ spells_scopes ∷ is_number ∷ []) ∷ [])
         (codes "pipe" ∷ []) result (map string_bytes words.now) }
 {
     match words {
@@ -66,7 +63,7 @@ fn read_token<'a>(
     user: &'a [u8],
     words: &'a [String],
 ) -> Result<Command<'a>, WordFault>
-    ensures read { ReadsOn 2 ((is_token ∷ is_scopes ∷ []) ∷ (is_token ∷ is_scopes ∷ is_number ∷ []) ∷ [])
+    ensures read { ReadsCommandOn 2 ((spells_token ∷ spells_scopes ∷ []) ∷ (spells_token ∷ spells_scopes ∷ is_number ∷ []) ∷ [])
         (codes "pipe" ∷ user.now ∷ []) result (map string_bytes words.now) }
 {
     match words {
@@ -85,7 +82,7 @@ fn read_scopes<'a>(
     token: Token,
     words: &'a [String],
 ) -> Result<Command<'a>, WordFault>
-    ensures read { (text : List ℕ) → token_reading text ≡ Some token → ReadsOn 3 ((is_scopes ∷ []) ∷ (is_scopes ∷ is_number ∷ []) ∷ [])
+    ensures read { (text : List ℕ) → token_reading text ≡ Some token → ReadsCommandOn 3 ((spells_scopes ∷ []) ∷ (spells_scopes ∷ is_number ∷ []) ∷ [])
         (codes "pipe" ∷ user.now ∷ text ∷ []) result (map string_bytes words.now) }
 {
     match words {
@@ -122,7 +119,7 @@ fn read_quota(words: &[String]) -> Result<u64, WordFault>
 
 // The words after `grant`.
 fn read_grant<'a>(alloc: Global, words: &'a [String]) -> Result<Command<'a>, WordFault>
-    ensures read { ReadsOn 1 ((is_scopes ∷ []) ∷ []) (codes "grant" ∷ []) result (map string_bytes words.now) }
+    ensures read { ReadsCommandOn 1 ((spells_scopes ∷ []) ∷ []) (codes "grant" ∷ []) result (map string_bytes words.now) }
 {
     match words {
         [word, others @ ..] => {
@@ -136,7 +133,7 @@ fn read_grant<'a>(alloc: Global, words: &'a [String]) -> Result<Command<'a>, Wor
 
 // The words after `revoke`.
 fn read_revoke<'a>(words: &'a [String]) -> Result<Command<'a>, WordFault>
-    ensures read { ReadsOn 1 ((is_token ∷ []) ∷ []) (codes "revoke" ∷ []) result (map string_bytes words.now) }
+    ensures read { ReadsCommandOn 1 ((spells_token ∷ []) ∷ []) (codes "revoke" ∷ []) result (map string_bytes words.now) }
 {
     match words {
         [word, others @ ..] => match Token::read(word.as_bytes()) {
@@ -177,22 +174,4 @@ fn ends(words: &[String], index: u64) -> Result<(), WordFault>
         [] => Ok(()),
         [_, ..] => Err(WordFault::Word { index }),
     }
-}
-
-fn is_user(word: &[u8]) -> bool
-    ensures user { result ≡ is_user word.now }
-{
-    (1..=MAX_USER).contains(&word.len()) && are_user_bytes(word)
-}
-
-fn are_user_bytes(word: &[u8]) -> bool
-    ensures all { result ≡ list_all is_user_byte word.now }
-{
-    word.iter().all(|byte| is_user_byte(*byte))
-}
-
-fn is_user_byte(byte: u8) -> bool
-    ensures test { result ≡ is_user_byte byte }
-{
-    byte.is_ascii_lowercase() || byte.is_ascii_digit() || byte == b'-' || byte == b'_'
 }

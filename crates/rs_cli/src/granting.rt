@@ -3,6 +3,7 @@
 ghost use Rattle.std.specs.Prelude.{◌≡◌, ◌∷◌, [], IfOk, OnErr};
 ghost use Rattle.std.specs.Io.KnownBytes.{prepend_known};
 ghost use Rattle.rs_face.specs.Causes.{HasCause};
+ghost use Rattle.rs_face.specs.Courses.{course};
 ghost use Rattle.rs_cli.specs.Grants.{DrawsFew, RevokeEnds, GrantEnds};
 ghost use Rattle.rs_cli.specs.Asking.{DrawsOrFails, RevokedOr, GrantedOr};
 
@@ -31,9 +32,9 @@ pub fn grant<T: Tree, K: Keeper, E: Entropy, W: Sink>(
     sink: &mut W,
 ) -> Note
     ensures ends { GrantEnds scopes
-        (record { old = K.rows keeper.old; new = K.rows keeper.new; before = K.faults keeper.old; now = K.faults keeper.new })
-        (record { old = E.words entropy.old; new = E.words entropy.new; before = E.faults entropy.old; now = E.faults entropy.new })
-        (record { old = W.written sink.old; new = W.written sink.new; before = W.faults sink.old; now = W.faults sink.new })
+        (course K.rows K.faults keeper.old keeper.new)
+        (course E.words E.faults entropy.old entropy.new)
+        (course W.written W.faults sink.old sink.new)
         result }
 {
     match grant_token::<T, K, E>(alloc, scopes, keeper, entropy) {
@@ -56,8 +57,8 @@ pub fn revoke<T: Tree, K: Keeper, W: Sink>(
     sink: &mut W,
 ) -> Note
     ensures ends { RevokeEnds token
-        (record { old = K.rows keeper.old; new = K.rows keeper.new; before = K.faults keeper.old; now = K.faults keeper.new })
-        (record { old = W.written sink.old; new = W.written sink.new; before = W.faults sink.old; now = W.faults sink.new })
+        (course K.rows K.faults keeper.old keeper.new)
+        (course W.written W.faults sink.old sink.new)
         result }
 {
     match revoke_token::<T, K>(alloc, token, keeper) {
@@ -74,8 +75,8 @@ fn grant_token<T: Tree, K: Keeper, E: Entropy>(
     entropy: &mut E,
 ) -> Result<Token, Note>
     ensures granted { GrantedOr scopes
-        (record { old = K.rows keeper.old; new = K.rows keeper.new; before = K.faults keeper.old; now = K.faults keeper.new })
-        (record { old = E.words entropy.old; new = E.words entropy.new; before = E.faults entropy.old; now = E.faults entropy.new })
+        (course K.rows K.faults keeper.old keeper.new)
+        (course E.words E.faults entropy.old entropy.new)
         result }
 {
     let mut state = open_rows::<T, K>(alloc, keeper, DEFAULT_QUOTA)?;
@@ -88,7 +89,7 @@ fn grant_token<T: Tree, K: Keeper, E: Entropy>(
 // Takes the token's scopes away, or says why not; then the rows are as before.
 fn revoke_token<T: Tree, K: Keeper>(alloc: Global, token: Token, keeper: &mut K) -> Result<(), Note>
     ensures revoked { RevokedOr token
-        (record { old = K.rows keeper.old; new = K.rows keeper.new; before = K.faults keeper.old; now = K.faults keeper.new })
+        (course K.rows K.faults keeper.old keeper.new)
         result }
 {
     let mut state = open_rows::<T, K>(alloc, keeper, DEFAULT_QUOTA)?;
@@ -98,21 +99,19 @@ fn revoke_token<T: Tree, K: Keeper>(alloc: Global, token: Token, keeper: &mut K)
 }
 
 // The token of the next two words.
-fn draw_token<E: Entropy>(entropy: &mut E) -> Result<Token, Note>
-    ensures drawn { DrawsOrFails
-        (record { old = E.words entropy.old; new = E.words entropy.new; before = E.faults entropy.old; now = E.faults entropy.new })
-        result }
+fn draw_token<E: Entropy>(entropy: &mut E) -> Result<Token, EntropyFault>
+    ensures drawn { DrawsOrFails (course E.words E.faults entropy.old entropy.new) result }
 {
     match draw_words(entropy) {
         Ok((first, second)) => Ok(Token::of_words(first, second)),
-        Err(EntropyFault::Failed) => Err(Note::EntropyFailed),
+        Err(fault) => Err(fault),
     }
 }
 
 fn draw_words<E: Entropy>(entropy: &mut E) -> Result<(u64, u64), EntropyFault>
     ensures drawn { IfOk result (λ drawn. E.words entropy.old ≡ prepend_known (drawn.0 ∷ drawn.1 ∷ []) (E.words entropy.new)) }
     ensures few { OnErr result (DrawsFew
-        (record { old = E.words entropy.old; new = E.words entropy.new; before = E.faults entropy.old; now = E.faults entropy.new })) }
+        (course E.words E.faults entropy.old entropy.new)) }
     ensures cause { HasCause (E.faults entropy.old) (E.faults entropy.new) EntropyFault.Failed result }
 {
     let first = entropy.word()?;

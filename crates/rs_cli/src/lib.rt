@@ -2,30 +2,23 @@
 #![tactic(auto)]
 
 mod asking;
+mod causes;
 mod command;
 mod forms;
 mod granting;
+mod laws;
 mod note;
 mod number;
 mod printing;
+mod request_fault;
 mod run;
 mod serving;
 mod status;
 mod texts;
 
+pub use command::{Command, RowsFile, Serving, WordFault};
+pub use forms::read_command;
+pub use laws::completeness_law;
 pub use note::Note;
-pub use run::{needs_rows, run_here};
+pub use run::{rows_file, run_here};
 pub use status::Status;
-
-#[cfg(test)]
-mod command_tests;
-#[cfg(test)]
-mod exchanges;
-#[cfg(test)]
-mod granting_tests;
-#[cfg(test)]
-mod message_tests;
-#[cfg(test)]
-mod outside_tests;
-#[cfg(test)]
-mod storage_tests;

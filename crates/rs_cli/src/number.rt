@@ -3,7 +3,7 @@
 ghost use Rattle.std.specs.Prelude.{◌≡◌};
 ghost use Rattle.std.specs.List.{list_all};
 ghost use Rattle.std.specs.Char.{is_ascii_digit};
-ghost use Rattle.rs_cli.specs.Numbers.{is_numeral, number_of};
+ghost use Rattle.rs_cli.specs.Numbers.{is_numeral, number_spelled};
 
 /// The most digits of a number.
 const MAX_DIGITS: usize = 20;
@@ -11,7 +11,7 @@ const MAX_DIGITS: usize = 20;
 /// The number that the word spells in decimal digits, without sign and leading zero; None where it spells none, or one
 /// greater than the greatest of 64 bits.
 pub fn read_number(word: &str) -> Option<u64>
-    ensures number { result ≡ number_of word.now }
+    ensures number { result ≡ number_spelled word.now }
 {
     if !is_numeral(word.as_bytes()) {
         return None;

@@ -1,14 +1,16 @@
 //! The command `pipe`.
 
-ghost use Rattle.std.specs.Prelude.{◌≡◌, ◌∷◌, [], List, ℕ, ◌≤◌, IfOk};
+ghost use Rattle.std.specs.Prelude.{◌≡◌, ◌∷◌, [], List, ℕ, IfOk};
 ghost use Rattle.rs_rules.specs.Histories.{History};
-ghost use Rattle.rs_cli.specs.Pipes.{PipeEnds, Pipes, IsReady, GrantsWhereMissing, OpensOr, account_of_user, note_of_end};
+ghost use Rattle.rs_face.specs.Courses.{course, IsLater};
+ghost use Rattle.rs_cli.specs.Pipes.{PipeEnds, Pipes, IsOpenState, GrantsWhereMissing, OpensOr, account_of_user};
 
 use crate::asking::{ask, open_rows};
 use crate::command::Serving;
 use crate::note::Note;
+use crate::request_fault::RequestFault;
 use rs_face::{Keeper, Sink, Source};
-use rs_front::{Account, Accounts, Config, End, serve_stream};
+use rs_front::{Account, Accounts, Config, serve_stream};
 use rs_path::{Bytes, NoMemory};
 use rs_rules::{Request, Tree};
 use rs_scope::{Scopes, Token};
@@ -37,9 +39,9 @@ pub fn pipe<T: Tree, S: Source, W: Sink, K: Keeper>(
     keeper: &mut K,
 ) -> Note
     ensures ends { PipeEnds serving.entry.user.now serving.entry.token serving.entry.scopes serving.entry.quota
-        (record { old = K.rows keeper.old; new = K.rows keeper.new; before = K.faults keeper.old; now = K.faults keeper.new })
-        (record { old = S.left source.old; new = S.left source.new; before = S.faults source.old; now = S.faults source.new })
-        (record { old = W.written sink.old; new = W.written sink.new; before = W.faults sink.old; now = W.faults sink.new })
+        (course K.rows K.faults keeper.old keeper.new)
+        (course S.left S.faults source.old source.new)
+        (course W.written W.faults sink.old sink.new)
         result }
 {
     let Serving {
@@ -66,9 +68,9 @@ fn open_granted<T: Tree, K: Keeper>(
     scopes: Scopes,
 ) -> Result<UserState<T>, Note>
     ensures opened { OpensOr T.stands token scopes
-        (record { old = K.rows keeper.old; new = K.rows keeper.new; before = K.faults keeper.old; now = K.faults keeper.new })
+        (course K.rows K.faults keeper.old keeper.new)
         (K.row_count keeper.new) quota result }
-    ensures later { K.faults keeper.old ≤ K.faults keeper.new }
+    ensures later { IsLater (course K.rows K.faults keeper.old keeper.new) }
 {
     let mut state = open_rows::<T, K>(alloc, keeper, quota)?;
     grant_where_missing(&mut state, keeper, token, scopes)?;
@@ -81,13 +83,13 @@ fn grant_where_missing<T: Tree, K: Keeper>(
     keeper: &mut K,
     token: Token,
     scopes: Scopes,
-) -> Result<(), Note>
-    requires ready { (h : History) × IsReady T.stands (K.rows keeper.old) (K.row_count keeper.old) state.old.quota state.old h }
-    ensures granted { (h : History) → IsReady T.stands (K.rows keeper.old) (K.row_count keeper.old) state.old.quota state.old h
+) -> Result<(), RequestFault>
+    requires ready { (h : History) × IsOpenState T.stands (K.rows keeper.old) (K.row_count keeper.old) state.old.quota state.old h }
+    ensures granted { (h : History) → IsOpenState T.stands (K.rows keeper.old) (K.row_count keeper.old) state.old.quota state.old h
         → GrantsWhereMissing T.stands h token scopes
-        (record { old = K.rows keeper.old; new = K.rows keeper.new; before = K.faults keeper.old; now = K.faults keeper.new })
+        (course K.rows K.faults keeper.old keeper.new)
         (K.row_count keeper.new) state.old.quota state.new result }
-    ensures later { K.faults keeper.old ≤ K.faults keeper.new }
+    ensures later { IsLater (course K.rows K.faults keeper.old keeper.new) }
 {
     if state.granted(&token) {
         return Ok(());
@@ -106,13 +108,13 @@ fn serve<T: Tree, S: Source, W: Sink, K: Keeper>(
     keeper: &mut K,
 ) -> Note
     requires account { (user : List ℕ) × (config.now.accounts ≡ account_of_user user ∷ []) }
-    requires ready { (h : History) × IsReady T.stands (K.rows keeper.old) (K.row_count keeper.old) state.old.quota state.old h }
+    requires ready { (h : History) × IsOpenState T.stands (K.rows keeper.old) (K.row_count keeper.old) state.old.quota state.old h }
     ensures serves { (user : List ℕ) (h : History) → config.now.accounts ≡ account_of_user user ∷ []
-        → IsReady T.stands (K.rows keeper.old) (K.row_count keeper.old) state.old.quota state.old h
+        → IsOpenState T.stands (K.rows keeper.old) (K.row_count keeper.old) state.old.quota state.old h
         → Pipes user h state.old.quota
-        (record { old = K.rows keeper.old; new = K.rows keeper.new; before = K.faults keeper.old; now = K.faults keeper.new })
-        (record { old = S.left source.old; new = S.left source.new; before = S.faults source.old; now = S.faults source.new })
-        (record { old = W.written sink.old; new = W.written sink.new; before = W.faults sink.old; now = W.faults sink.new })
+        (course K.rows K.faults keeper.old keeper.new)
+        (course S.left S.faults source.old source.new)
+        (course W.written W.faults sink.old sink.new)
         result }
 {
     let mut desk = SoloDesk::new(state, keeper);
@@ -129,18 +131,18 @@ fn serve_desk<T: Tree, S: Source, W: Sink, K: Keeper>(
 ) -> Note
     requires account { (user : List ℕ) × (config.now.accounts ≡ account_of_user user ∷ []) }
     requires ready { (h : History)
-        × IsReady T.stands (K.rows desk.old.keeper.now) (K.row_count desk.old.keeper.now) desk.old.state.now.quota desk.old.state.now h }
+        × IsOpenState T.stands (K.rows desk.old.keeper.now) (K.row_count desk.old.keeper.now) desk.old.state.now.quota desk.old.state.now h }
     ensures serves { (user : List ℕ) (h : History) → config.now.accounts ≡ account_of_user user ∷ []
-        → IsReady T.stands (K.rows desk.old.keeper.now) (K.row_count desk.old.keeper.now) desk.old.state.now.quota desk.old.state.now h
+        → IsOpenState T.stands (K.rows desk.old.keeper.now) (K.row_count desk.old.keeper.now) desk.old.state.now.quota desk.old.state.now h
         → Pipes user h desk.old.state.now.quota
-        (record { old = K.rows desk.old.keeper.now; new = K.rows desk.new.keeper.now; before = K.faults desk.old.keeper.now; now = K.faults desk.new.keeper.now })
-        (record { old = S.left source.old; new = S.left source.new; before = S.faults source.old; now = S.faults source.new })
-        (record { old = W.written sink.old; new = W.written sink.new; before = W.faults sink.old; now = W.faults sink.new })
+        (course K.rows K.faults desk.old.keeper.now desk.new.keeper.now)
+        (course S.left S.faults source.old source.new)
+        (course W.written W.faults sink.old sink.new)
         result }
     ensures same_keeper { desk.new.keeper.ghost_name ≡ desk.old.keeper.ghost_name }
     ensures same_state { desk.new.state.ghost_name ≡ desk.old.state.ghost_name }
 {
-    note_of_end(serve_stream(alloc, config, source, sink, desk))
+    Note::from(serve_stream(alloc, config, source, sink, desk))
 }
 
 // A server of this user alone, who has no password.
@@ -158,18 +160,4 @@ fn config_of(alloc: Global, user: &[u8]) -> Result<Config, NoMemory>
         host: Bytes::of(Vec::from_slice(alloc, HOST)?),
         accounts,
     })
-}
-
-// What is said of the end of a connection.
-fn note_of_end(end: End) -> Note
-    ensures note { result ≡ note_of_end end }
-{
-    match end {
-        End::Closed => Note::Empty,
-        End::Limit => Note::Limit,
-        End::ReadFault => Note::SourceFailed,
-        End::WriteFault => Note::SinkFailed,
-        End::NoMemory => Note::NoMemory,
-        End::BadMessage { fault } => Note::Message { place: fault.place },
-    }
 }

@@ -1,7 +1,7 @@
 //! Requests on a user's storage and their replies, byte for byte.
 
-use crate::Note;
 use crate::exchanges::{PIPE, comes_to, gives, keeper_of, replies, requests, writes};
+use rs_cli::Note;
 use rs_path::NoMemory;
 use std::alloc::Global;
 use std::test::Fail;

@@ -1,7 +1,7 @@
 //! Words read as commands, as a table.
 
-use crate::command::{Command, WordFault};
-use crate::forms::read_command;
+use crate::exchanges::{PIPE, words_of};
+use rs_cli::{Command, RowsFile, WordFault, read_command, rows_file};
 use rs_path::NoMemory;
 use std::alloc::Global;
 use std::process::Abort;
@@ -10,7 +10,7 @@ use std::test::Fail;
 const TOKEN: &str = "000102030405060708090a0b0c0d0e0f";
 
 /// The words of a row, parted by `|`; none where the row is empty.
-fn words_of(alloc: Global, row: &str) -> Result<Vec<String>, NoMemory> {
+fn parted(alloc: Global, row: &str) -> Result<Vec<String>, NoMemory> {
     let mut words = Vec::new(alloc);
     if row.is_empty() {
         return Ok(words);
@@ -23,7 +23,7 @@ fn words_of(alloc: Global, row: &str) -> Result<Vec<String>, NoMemory> {
 
 /// Sees that the words are wrong at the index.
 fn is_wrong(rt: &impl Abort, alloc: Global, row: &str, index: u64) -> Result<(), Fail> {
-    let words = words_of(alloc, row)?;
+    let words = parted(alloc, row)?;
     match read_command(alloc, words.as_slice()) {
         Err(fault) => assert_eq!(rt; fault, WordFault::Word { index }),
         Ok(_) => Err("a command")?,
@@ -75,7 +75,7 @@ fn wrong_words(rt: HostRuntime) -> Result<(), Fail> {
 
 /// Sees that the words are a `pipe` with this quota.
 fn has_quota(rt: &impl Abort, alloc: Global, row: &str, wanted: u64) -> Result<(), Fail> {
-    let words = words_of(alloc, row)?;
+    let words = parted(alloc, row)?;
     match &read_command(alloc, words.as_slice()) {
         Ok(Command::Pipe { serving }) => {
             assert_eq!(rt; serving.user, b"alice".as_slice());
@@ -100,7 +100,7 @@ fn pipes(rt: HostRuntime) -> Result<(), Fail> {
 
 #[test]
 fn a_grant(rt: HostRuntime) -> Result<(), Fail> {
-    let words = words_of(rt.alloc(), "grant|notes:rw")?;
+    let words = parted(rt.alloc(), "grant|notes:rw")?;
     let mut text = Vec::new(rt.alloc());
     match &read_command(rt.alloc(), words.as_slice()) {
         Ok(Command::Grant { scopes }) => scopes.write(&mut text)?,
@@ -112,7 +112,7 @@ fn a_grant(rt: HostRuntime) -> Result<(), Fail> {
 
 #[test]
 fn a_revocation(rt: HostRuntime) -> Result<(), Fail> {
-    let words = words_of(rt.alloc(), "revoke|000102030405060708090a0b0c0d0e0f")?;
+    let words = parted(rt.alloc(), "revoke|000102030405060708090a0b0c0d0e0f")?;
     match &read_command(rt.alloc(), words.as_slice()) {
         Ok(Command::Revoke { token }) => {
             assert_eq!(rt; token.digits().as_slice(), TOKEN.as_bytes());
@@ -124,8 +124,8 @@ fn a_revocation(rt: HostRuntime) -> Result<(), Fail> {
 
 #[test]
 fn words_that_stand_alone(rt: HostRuntime) -> Result<(), Fail> {
-    let help = words_of(rt.alloc(), "--help")?;
-    let version = words_of(rt.alloc(), "--version")?;
+    let help = parted(rt.alloc(), "--help")?;
+    let version = parted(rt.alloc(), "--version")?;
     assert!(rt;
         matches!(
             &read_command(rt.alloc(), help.as_slice()),
@@ -139,4 +139,29 @@ fn words_that_stand_alone(rt: HostRuntime) -> Result<(), Fail> {
         )
     );
     Ok(())
+}
+
+/// The words want this file of rows.
+fn wants(rt: &impl Abort, alloc: Global, line: &str, wanted: RowsFile) -> Result<(), Fail> {
+    let words = words_of(alloc, line)?;
+    let read = read_command(alloc, words.as_slice());
+    assert_eq!(rt; rows_file(&read), wanted, "at {line}");
+    Ok(())
+}
+
+#[test]
+fn which_words_want_rows(rt: HostRuntime) -> Result<(), Fail> {
+    let alloc = rt.alloc();
+    wants(&rt, alloc, PIPE, RowsFile::User)?;
+    wants(&rt, alloc, "grant notes:rw", RowsFile::User)?;
+    wants(
+        &rt,
+        alloc,
+        "revoke 000102030405060708090a0b0c0d0e0f",
+        RowsFile::User,
+    )?;
+    wants(&rt, alloc, "revoke", RowsFile::None)?;
+    wants(&rt, alloc, "pear", RowsFile::None)?;
+    wants(&rt, alloc, "--help", RowsFile::None)?;
+    wants(&rt, alloc, "--version", RowsFile::None)
 }

@@ -1,6 +1,6 @@
-//! Runs of `pipe` for tests: tables of requests and their replies as the bytes that stand on the wire.
+//! Runs of commands: words, objects in memory, and tables of requests and replies as the bytes that stand on the wire.
 
-use crate::{Note, Status, run_here};
+use rs_cli::{Note, Status, read_command, run_here};
 use rs_face::{MemEntropy, MemKeeper, MemSink, MemSource};
 use rs_path::{Bytes, NoMemory};
 use std::alloc::Global;
@@ -145,6 +145,20 @@ pub(crate) fn words_of(alloc: Global, line: &str) -> Result<Vec<String>, NoMemor
     Ok(words)
 }
 
+/// Runs the words over these objects.
+pub(crate) fn run_over(
+    alloc: Global,
+    line: &str,
+    source: &mut MemSource,
+    sink: &mut MemSink,
+    keeper: &mut MemKeeper,
+    entropy: &mut MemEntropy,
+) -> Result<Status, NoMemory> {
+    let words = words_of(alloc, line)?;
+    let read = read_command(alloc, words.as_slice());
+    Ok(run_here(alloc, read, source, sink, keeper, entropy))
+}
+
 /// Runs the words over these objects, and an entropy without words.
 pub(crate) fn run(
     alloc: Global,
@@ -153,9 +167,8 @@ pub(crate) fn run(
     sink: &mut MemSink,
     keeper: &mut MemKeeper,
 ) -> Result<Status, NoMemory> {
-    let words = words_of(alloc, line)?;
     let mut entropy = MemEntropy::new(Vec::new(alloc), Vec::new(alloc));
-    Ok(run_here(alloc, words.as_slice(), source, sink, keeper, &mut entropy))
+    run_over(alloc, line, source, sink, keeper, &mut entropy)
 }
 
 /// The words over this keeper and the input, read in pieces of so many bytes, write this and end so.

@@ -1,7 +1,7 @@
 //! Messages in each framing, and the ends of a connection, byte for byte.
 
-use crate::Note;
 use crate::exchanges::{PIPE, comes_to, replies, requests};
+use rs_cli::Note;
 use std::alloc::Global;
 use std::process::Abort;
 use std::test::Fail;

@@ -1,7 +1,7 @@
 //! Runs over rows that are there, and over objects that fail.
 
 use crate::exchanges::{GRANT_ROW, PIPE, has_rows, keeper_of, replies, requests, run, writes};
-use crate::{Note, Status};
+use rs_cli::{Note, Status};
 use rs_face::{MemSink, MemSource};
 use std::alloc::Global;
 use std::process::Abort;

@@ -1,12 +1,9 @@
 //! Runs of `grant` and `revoke` over rows in memory.
 
-use crate::exchanges::{PIPE, has_rows, keeper_of, words_of};
-use crate::granting::{grant, revoke};
-use crate::note::Note;
-use crate::{needs_rows, run_here};
+use crate::exchanges::{has_rows, keeper_of, run, run_over};
+use rs_cli::Note;
 use rs_face::{MemEntropy, MemKeeper, MemSink, MemSource};
-use rs_plain::PlainTree;
-use rs_scope::{Scopes, Token};
+use rs_scope::Token;
 use std::alloc::Global;
 use std::process::Abort;
 use std::test::Fail;
@@ -24,8 +21,9 @@ const GRANT_ROW: &[u8] =
 const REVOKE_ROW: &[u8] =
     b"\x01\x04\x00\x01\x02\x03\x04\x05\x06\x07\x08\x09\x0a\x0b\x0c\x0d\x0e\x0f";
 
-fn token() -> Token {
-    Token::of_words(FIRST, SECOND)
+/// An input that no command but `pipe` reads.
+fn unread(alloc: Global) -> Result<MemSource, Fail> {
+    Ok(MemSource::new(b"GET".to_vec(alloc)?, [1].to_vec(alloc)?))
 }
 
 /// `grant notes:rw` over these rows and words ends so, with these rows and printed bytes. A number that isn't 0 is that of
@@ -43,17 +41,19 @@ fn sees_grant(
     let mut keeper = keeper_of(alloc, rows, &[keeper_fails])?;
     let mut entropy = MemEntropy::new(words.to_vec(alloc)?, [entropy_fails].to_vec(alloc)?);
     let mut sink = MemSink::new(Vec::new(alloc), [sink_fails].to_vec(alloc)?);
-    let scopes = Scopes::read(alloc, b"notes:rw")?;
-    let note = grant::<PlainTree, MemKeeper, MemEntropy, MemSink>(
+    let mut source = unread(alloc)?;
+    let line = "grant notes:rw";
+    let status = run_over(
         alloc,
-        scopes,
+        line,
+        &mut source,
+        &mut sink,
         &mut keeper,
         &mut entropy,
-        &mut sink,
-    );
+    )?;
     has_rows(rt, &keeper, rows_after)?;
     assert_eq!(rt; sink.written(), printed);
-    Ok(note)
+    Ok(status.note)
 }
 
 #[test]
@@ -76,7 +76,12 @@ fn a_token_is_granted_once(rt: HostRuntime) -> Result<(), Fail> {
     let rows = [GRANT_ROW];
     let words = [FIRST, SECOND];
     let note = sees_grant(&rt, rt.alloc(), (0, 0, 0), &rows, &words, &rows, b"")?;
-    assert_eq!(rt; note, Note::TokenTaken { token: token() });
+    assert_eq!(rt;
+        note,
+        Note::TokenTaken {
+            token: Token::of_words(FIRST, SECOND)
+        }
+    );
     Ok(())
 }
 
@@ -147,10 +152,12 @@ fn sees_revoke(
     let (keeper_fails, sink_fails) = failing;
     let mut keeper = keeper_of(alloc, rows, &[keeper_fails])?;
     let mut sink = MemSink::new(Vec::new(alloc), [sink_fails].to_vec(alloc)?);
-    let note = revoke::<PlainTree, MemKeeper, MemSink>(alloc, token(), &mut keeper, &mut sink);
+    let mut source = unread(alloc)?;
+    let line = "revoke 000102030405060708090a0b0c0d0e0f";
+    let status = run(alloc, line, &mut source, &mut sink, &mut keeper)?;
     has_rows(rt, &keeper, rows_after)?;
     assert_eq!(rt; sink.written(), printed);
-    Ok(note)
+    Ok(status.note)
 }
 
 #[test]
@@ -199,11 +206,9 @@ fn sees_words(
     entropy: &mut MemEntropy,
     printed: &[u8],
 ) -> Result<Note, Fail> {
-    let words = words_of(alloc, line)?;
-    let mut source = MemSource::new(b"GET".to_vec(alloc)?, [1].to_vec(alloc)?);
+    let mut source = unread(alloc)?;
     let mut sink = MemSink::new(Vec::new(alloc), Vec::new(alloc));
-    let words = words.as_slice();
-    let status = run_here(alloc, words, &mut source, &mut sink, keeper, entropy);
+    let status = run_over(alloc, line, &mut source, &mut sink, keeper, entropy)?;
     assert_eq!(rt; sink.written(), printed);
     Ok(status.note)
 }
@@ -248,76 +253,4 @@ fn words_without_rows(rt: HostRuntime) -> Result<(), Fail> {
     let note = sees_words(&rt, alloc, "grant notes:rw", &mut keeper, &mut entropy, b"")?;
     assert_eq!(rt; note, Note::RowAt { index: 0, place: 2 });
     Ok(())
-}
-
-/// The words want rows, or not.
-fn wants(rt: &impl Abort, alloc: Global, line: &str, wanted: bool) -> Result<(), Fail> {
-    let words = words_of(alloc, line)?;
-    assert_eq!(rt; needs_rows(alloc, words.as_slice())?, wanted, "at {line}");
-    Ok(())
-}
-
-#[test]
-fn which_words_want_rows(rt: HostRuntime) -> Result<(), Fail> {
-    let alloc = rt.alloc();
-    wants(&rt, alloc, PIPE, true)?;
-    wants(&rt, alloc, "grant notes:rw", true)?;
-    wants(&rt, alloc, "revoke 000102030405060708090a0b0c0d0e0f", true)?;
-    wants(&rt, alloc, "revoke", false)?;
-    wants(&rt, alloc, "pear", false)?;
-    wants(&rt, alloc, "--help", false)?;
-    wants(&rt, alloc, "--version", false)
-}
-
-/// The note has this code and this text.
-fn tells(rt: &impl Abort, alloc: Global, note: Note, code: u8, text: &[u8]) -> Result<(), Fail> {
-    let mut out = b">".to_vec(alloc)?;
-    note.write(&mut out)?;
-    assert_eq!(rt; out.as_slice(), text);
-    assert_eq!(rt; note.status().code, code);
-    Ok(())
-}
-
-#[test]
-fn notes_of_causes(rt: HostRuntime) -> Result<(), Fail> {
-    let alloc = rt.alloc();
-    tells(&rt, alloc, Note::Empty, 0, b">")?;
-    tells(&rt, alloc, Note::KeeperFailed, 3, b">keeper failed")?;
-    tells(&rt, alloc, Note::NoMemory, 5, b">no memory")?;
-    tells(&rt, alloc, Note::NotThere, 8, b">not there")?;
-    tells(&rt, alloc, Note::SinkFailed, 11, b">sink failed")?;
-    tells(&rt, alloc, Note::SourceFailed, 12, b">source failed")?;
-    tells(&rt, alloc, Note::Limit, 14, b">limit")?;
-    tells(&rt, alloc, Note::EntropyFailed, 17, b">entropy failed")
-}
-
-#[test]
-fn notes_of_places(rt: HostRuntime) -> Result<(), Fail> {
-    let alloc = rt.alloc();
-    let place = 32;
-    let token = token();
-    let taken = b">token taken 000102030405060708090a0b0c0d0e0f";
-    tells(&rt, alloc, Note::Word { index: 2 }, 2, b">word 2")?;
-    tells(
-        &rt,
-        alloc,
-        Note::RowAt { index: 1, place },
-        10,
-        b">row 1 at 32",
-    )?;
-    tells(
-        &rt,
-        alloc,
-        Note::RowUnlawful { index: 2 },
-        10,
-        b">row 2 unlawful",
-    )?;
-    tells(&rt, alloc, Note::TokenTaken { token }, 17, taken)?;
-    tells(
-        &rt,
-        alloc,
-        Note::Message { place: 1_807 },
-        18,
-        b">message at 1807",
-    )
 }

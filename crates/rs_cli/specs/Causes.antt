@@ -1,0 +1,49 @@
+-- What is said of each cause: one step from a cause to a note.
+use Rattle.std.specs.Prelude.{Result, Ok, Err}
+use Rattle.rs_face.specs.declared.sink.SinkFault.{SinkFault}
+use Rattle.rs_face.specs.declared.sink.SinkFault.TheVariants as sink
+use Rattle.rs_rules.specs.declared.open_fault.OpenFault.{OpenFault}
+use Rattle.rs_rules.specs.declared.open_fault.OpenFault.TheVariants as opening
+use Rattle.rs_front.specs.declared.serve.End.{End}
+use Rattle.rs_front.specs.declared.serve.End.TheVariants as end
+use Rattle.rs_cli.specs.declared.request_fault.RequestFault.{RequestFault}
+use Rattle.rs_cli.specs.declared.request_fault.RequestFault.TheVariants as asked
+use Rattle.rs_cli.specs.declared.command.WordFault.{WordFault}
+use Rattle.rs_cli.specs.declared.command.WordFault.TheVariants as words
+use Rattle.rs_cli.specs.declared.note.Note.{Note}
+use Rattle.rs_cli.specs.declared.note.Note.TheVariants as note
+
+-- words that are no command
+abbrev pub note_of_words : WordFault → Note
+note_of_words (words.Word index) = note.Word index
+note_of_words words.NoMemory = note.NoMemory
+
+-- rows that are not opened
+abbrev pub note_of_opening : OpenFault → Note
+note_of_opening (opening.BadRow index place) = note.RowAt index place
+note_of_opening (opening.Unlawful index) = note.RowUnlawful index
+note_of_opening opening.KeeperFailed = note.KeeperFailed
+note_of_opening opening.NoMemory = note.NoMemory
+
+-- a grant or a revocation that adds no record
+abbrev pub note_of_request : RequestFault → Note
+note_of_request asked.NotGranted = note.NotThere
+note_of_request asked.RecordsFull = note.Limit
+note_of_request (asked.TokenTaken token) = note.TokenTaken token
+note_of_request asked.KeeperFailed = note.KeeperFailed
+note_of_request asked.NoMemory = note.NoMemory
+
+-- a printed line
+abbrev pub note_of_printing : {A : Type 0} → Result A SinkFault → Note
+note_of_printing (Ok done) = note.Empty
+note_of_printing (Err sink.Failed) = note.SinkFailed
+note_of_printing (Err sink.NoMemory) = note.NoMemory
+
+-- the end of a connection
+abbrev pub note_of_end : End → Note
+note_of_end end.Closed = note.Empty
+note_of_end end.Limit = note.Limit
+note_of_end end.ReadFault = note.SourceFailed
+note_of_end end.WriteFault = note.SinkFailed
+note_of_end end.NoMemory = note.NoMemory
+note_of_end (end.BadMessage f) = note.Message f.place
