@@ -7,8 +7,6 @@ mod asking;
 #[cfg(test)]
 mod cond_tests;
 #[cfg(test)]
-mod full_tests;
-#[cfg(test)]
 mod plain_answer;
 #[cfg(test)]
 mod rows;

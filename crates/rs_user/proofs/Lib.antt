@@ -6,4 +6,5 @@ mod SpellingLemmas
 mod OpeningLemmas
 mod StandingLemmas
 mod StepLemmas
+mod TopLemmas
 mod TurnLemmas
