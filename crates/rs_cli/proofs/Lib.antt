@@ -1,3 +1,4 @@
+mod FormLemmas
 mod CommandLemmas
 mod NumberLemmas
 mod GrantLemmas

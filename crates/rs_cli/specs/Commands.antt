@@ -1,5 +1,5 @@
 -- How words are read as a command.
-use Rattle.std.specs.Prelude.{◌≡◌, ℕ, List, [], ◌∷◌, ◌++◌, false, Option, Some, None, Result, Ok, Err, codes}
+use Rattle.std.specs.Prelude.{◌≡◌, ℕ, true, false, max, List, [], ◌∷◌, map, get_or, Option, Some, None, Result, Ok, Err, codes}
 use Rattle.rs_scope.specs.declared.scope.Scope.{Scope}
 use Rattle.rs_scope.specs.Tokens.{token_reading}
 use Rattle.rs_scope.specs.ScopeReadings.{scopes_reading}
@@ -9,7 +9,9 @@ use Rattle.rs_cli.specs.declared.command.RowsFile.{RowsFile}
 use Rattle.rs_cli.specs.declared.command.RowsFile.TheVariants as file
 use Rattle.rs_cli.specs.declared.command.WordFault.{WordFault}
 use Rattle.rs_cli.specs.declared.command.WordFault.TheVariants.{Word, NoMemory}
-use Rattle.rs_cli.specs.Forms.{Form, forms, first_wrong, spells_scopes, is_number}
+use Rattle.rs_cli.specs.declared.forms.Form.{Form}
+use Rattle.rs_cli.specs.Forms.{tests_of, wrong_word}
+use Rattle.rs_cli.specs.Scans.{fits, some_fits, most_taken}
 use Rattle.rs_cli.specs.Numbers.{number_spelled}
 
 -- the quota where none is given, in bytes
@@ -65,39 +67,28 @@ abbrev pub rows_file_of : Result Command WordFault → RowsFile
 rows_file_of (Ok command) = file_of command
 rows_file_of (Err fault) = file.None
 
--- words that follow so many others were read, where these forms go on: they ask for the command with those others in front;
--- or the index of the first wrong one is told; or memory ran out
-abbrev pub ReadsCommandOn : ℕ → List Form → List (List ℕ) → Result Command WordFault → List (List ℕ) → Type 0
-ReadsCommandOn count going front (Ok command) words = (first_wrong count going words ≡ None) × AsksFor command (front ++ words)
-ReadsCommandOn count going front (Err (Word index)) words = first_wrong count going words ≡ Some index
-ReadsCommandOn count going front (Err NoMemory) words = Unit {0}
-
--- the words were read as a command
+-- the words were read: they ask for the command; or the index of the first wrong one is told; or memory ran out
 abbrev pub ReadsCommand : Result Command WordFault → List (List ℕ) → Type 0
-ReadsCommand result words = ReadsCommandOn 0 forms [] result words
+ReadsCommand (Ok command) words = (wrong_word words ≡ None) × AsksFor command words
+ReadsCommand (Err (Word index)) words = wrong_word words ≡ Some index
+ReadsCommand (Err NoMemory) words = Unit {0}
 
 -- ---- parts
 
--- the scopes that the word at the index spells, or that index
-abbrev pub ReadsScopes : Result (List Scope) WordFault → List ℕ → ℕ → Type 0
-ReadsScopes (Ok scopes) word index = scopes_reading word ≡ Ok scopes
-ReadsScopes (Err (Word at)) word index = (at ≡ index) × (spells_scopes word ≡ false)
-ReadsScopes (Err NoMemory) word index = Unit {0}
+-- the words are in the form; or the index of the first wrong one is told; or memory ran out
+abbrev pub FindsForm : Result Form WordFault → List (List ℕ) → Type 0
+FindsForm (Ok form) words = (wrong_word words ≡ None) × (fits (tests_of form) words ≡ true)
+FindsForm (Err (Word index)) words = wrong_word words ≡ Some index
+FindsForm (Err NoMemory) words = Unit {0}
 
--- the quota that the words after SCOPES give
-abbrev pub ReadsQuota : Result ℕ WordFault → List (List ℕ) → Type 0
-ReadsQuota (Ok quota) words = (first_wrong 4 ([] ∷ (is_number ∷ []) ∷ []) words ≡ None) × (quota_of words ≡ Some quota)
-ReadsQuota (Err (Word index)) words = first_wrong 4 ([] ∷ (is_number ∷ []) ∷ []) words ≡ Some index
-ReadsQuota (Err NoMemory) words = ⊥
+-- the words are in one of these forms; or in none, and the index is the most words that took their places, in these forms or,
+-- so many, in others; or memory ran out
+abbrev pub FindsAmong : List Form → ℕ → Result Form WordFault → List (List ℕ) → Type 0
+FindsAmong forms most (Ok form) words = (some_fits (map tests_of forms) words ≡ true) × (fits (tests_of form) words ≡ true)
+FindsAmong forms most (Err (Word index)) words =
+    (some_fits (map tests_of forms) words ≡ false) × (index ≡ max most (most_taken (map tests_of forms) words))
+FindsAmong forms most (Err NoMemory) words = Unit {0}
 
--- the words after one that stands alone
-abbrev pub ReadsAlone : Result Command WordFault → Command → List (List ℕ) → Type 0
-ReadsAlone (Ok read) command words = (read ≡ command) × (words ≡ [])
-ReadsAlone (Err (Word index)) command words = first_wrong 1 ([] ∷ []) words ≡ Some index
-ReadsAlone (Err NoMemory) command words = ⊥
-
--- no word is left, or the first that is has the index
-abbrev pub Ends : Result (Unit {0}) WordFault → List (List ℕ) → ℕ → Type 0
-Ends (Ok done) words index = words ≡ []
-Ends (Err (Word at)) words index = first_wrong index ([] ∷ []) words ≡ Some at
-Ends (Err NoMemory) words index = ⊥
+-- the word at the index, and an empty one behind the last
+abbrev pub word_at : List (List ℕ) → ℕ → List ℕ
+word_at words i = get_or words i []

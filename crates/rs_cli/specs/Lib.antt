@@ -1,6 +1,7 @@
 pub mod Outsides
 pub mod Numbers
 pub mod Forms
+pub mod Scans
 pub mod Commands
 pub mod Notes
 pub mod Causes

@@ -1,5 +1,6 @@
 //! Commands.
 
+use rs_path::NoMemory;
 use rs_scope::{Scopes, Token};
 
 /// Whom `pipe` serves, and which token with which scopes.
@@ -59,4 +60,15 @@ pub enum WordFault {
     Word { index: u64 },
     /// Memory ran out.
     NoMemory,
+}
+
+impl From<NoMemory> for WordFault {
+    ghost use Rattle.std.specs.Prelude.{◌≡◌};
+    ghost use Rattle.rs_cli.specs.declared.command.WordFault.TheVariants.{NoMemory};
+
+    ghost from_gives = { λ _ fault. fault ≡ NoMemory };
+
+    fn from(_e: NoMemory) -> WordFault {
+        WordFault::NoMemory
+    }
 }

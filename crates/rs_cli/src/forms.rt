@@ -1,177 +1,118 @@
-//! The words of the command line read as a command.
+//! The table of the forms that the words of a command line may have.
 
-ghost use Rattle.std.specs.Prelude.{◌≡◌, ℕ, ◌∷◌, [], List, Some, map, codes, string_bytes};
-ghost use Rattle.rs_scope.specs.Tokens.{token_reading};
-ghost use Rattle.rs_path.specs.Users.{is_user};
-ghost use Rattle.rs_cli.specs.Forms.{spells_token, spells_scopes, is_number};
-ghost use Rattle.rs_cli.specs.Commands.{ReadsCommand, ReadsCommandOn, ReadsQuota, ReadsAlone, ReadsScopes, Ends};
+ghost use Rattle.std.specs.Prelude.{◌≡◌, IfOk, is_ok};
+ghost use Rattle.rs_scope.specs.ScopeReadings.{scopes_reading};
+ghost use Rattle.rs_cli.specs.Forms.{forms};
 
-use crate::command::{Command, Serving, WordFault};
 use crate::number::read_number;
-use rs_path::is_user;
+use rs_path::{NoMemory, is_user};
 use rs_scope::{ScopeFault, Scopes, Token};
 use std::alloc::Global;
 
-/// The quota where none is given, in bytes.
-pub const DEFAULT_QUOTA: u64 = 1_073_741_824;
-
-/// Reads the words, without the program's name, as a command. A word is wrong where none of the forms goes on with the
-/// words up to it; the first wrong word is told by its index, counted from 0. Where the words begin a form and none ends
-/// there, this is the number of words.
-pub fn read_command<'a>(alloc: Global, words: &'a [String]) -> Result<Command<'a>, WordFault>
-    ensures read { ReadsCommand result (map string_bytes words.now) }
-{
-    let [word, others @ ..] = words else {
-        return Err(WordFault::Word { index: 0 });
-    };
-    let name = word.as_bytes();
-    if name == b"pipe".as_slice() {
-        read_user(alloc, others)
-    } else if name == b"grant".as_slice() {
-        read_grant(alloc, others)
-    } else if name == b"revoke".as_slice() {
-        read_revoke(others)
-    } else if name == b"--help".as_slice() {
-        read_alone(others, Command::Help)
-    } else if name == b"--version".as_slice() {
-        read_alone(others, Command::Version)
-    } else {
-        Err(WordFault::Word { index: 0 })
-    }
+/// What stands at a place of a form.
+#[derive(Clone, Copy, Debug)]
+pub enum Place {
+    /// USER: 1 to 32 of `a` to `z`, digits, `-` and `_`.
+    User,
+    /// TOKEN: 32 lower hexadecimal digits.
+    Token,
+    /// SCOPES: items `MODULE:r`, `MODULE:rw`, `*:r` and `*:rw` parted by spaces.
+    Scopes,
+    /// A number: decimal digits without a zero in front, at most 18446744073709551615.
+    Number,
 }
 
-// The words after `pipe`.
-fn read_user<'a>(alloc: Global, words: &'a [String]) -> Result<Command<'a>, WordFault>
-    ensures read { ReadsCommandOn 1 ((is_user ∷ spells_token ∷ spells_scopes ∷ []) ∷ (is_user ∷ spells_token ∷ spells_scopes ∷ is_number ∷ []) ∷ [])
-        (codes "pipe" ∷ []) result (map string_bytes words.now) }
+/// A form, which is a row of the table.
+#[derive(Clone, Copy, Debug)]
+pub enum Form {
+    /// `pipe USER TOKEN SCOPES`
+    Pipe,
+    /// `pipe USER TOKEN SCOPES QUOTA`
+    PipeUnder,
+    /// `grant SCOPES`
+    Grant,
+    /// `revoke TOKEN`
+    Revoke,
+    /// `--help`
+    Help,
+    /// `--version`
+    Version,
+}
+
+/// A row: the name of the command, and the places behind it.
+#[derive(Clone, Copy, Debug)]
+pub struct Row {
+    pub name: &'static [u8],
+    pub places: &'static [Place],
+}
+
+/// The forms, in the order of `--help`.
+pub fn forms() -> &'static [Form]
+    ensures forms { result.now ≡ forms }
 {
-    match words {
-        [word, others @ ..] => {
-            if is_user(word.as_bytes()) {
-                read_token(alloc, word.as_bytes(), others)
-            } else {
-                Err(WordFault::Word { index: 1 })
-            }
+    &[
+        Form::Pipe,
+        Form::PipeUnder,
+        Form::Grant,
+        Form::Revoke,
+        Form::Help,
+        Form::Version,
+    ]
+}
+
+impl Form {
+    ghost use Rattle.std.specs.Prelude.{◌≡◌};
+    ghost use Rattle.rs_cli.specs.Forms.{named_places};
+
+    /// The row of the form.
+    pub fn row(self) -> Row
+        ensures name { result.name.now ≡ (named_places self).name }
+        ensures places { result.places.now ≡ (named_places self).places }
+    {
+        match self {
+            Form::Pipe => named(b"pipe", &[Place::User, Place::Token, Place::Scopes]),
+            Form::PipeUnder => named(
+                b"pipe",
+                &[Place::User, Place::Token, Place::Scopes, Place::Number],
+            ),
+            Form::Grant => named(b"grant", &[Place::Scopes]),
+            Form::Revoke => named(b"revoke", &[Place::Token]),
+            Form::Help => named(b"--help", &[]),
+            Form::Version => named(b"--version", &[]),
         }
-        [] => Err(WordFault::Word { index: 1 }),
     }
 }
 
-// The words after `pipe USER`.
-fn read_token<'a>(
-    alloc: Global,
-    user: &'a [u8],
-    words: &'a [String],
-) -> Result<Command<'a>, WordFault>
-    ensures read { ReadsCommandOn 2 ((spells_token ∷ spells_scopes ∷ []) ∷ (spells_token ∷ spells_scopes ∷ is_number ∷ []) ∷ [])
-        (codes "pipe" ∷ user.now ∷ []) result (map string_bytes words.now) }
+fn named(name: &'static [u8], places: &'static [Place]) -> Row
+    ensures name { result.name.now ≡ name.now }
+    ensures places { result.places.now ≡ places.now }
 {
-    match words {
-        [word, others @ ..] => match Token::read(word.as_bytes()) {
-            Some(token) => read_scopes(alloc, user, token, others),
-            None => Err(WordFault::Word { index: 2 }),
-        },
-        [] => Err(WordFault::Word { index: 2 }),
-    }
+    Row { name, places }
 }
 
-// The words after `pipe USER TOKEN`.
-fn read_scopes<'a>(
-    alloc: Global,
-    user: &'a [u8],
-    token: Token,
-    words: &'a [String],
-) -> Result<Command<'a>, WordFault>
-    ensures read { (text : List ℕ) → token_reading text ≡ Some token → ReadsCommandOn 3 ((spells_scopes ∷ []) ∷ (spells_scopes ∷ is_number ∷ []) ∷ [])
-        (codes "pipe" ∷ user.now ∷ text ∷ []) result (map string_bytes words.now) }
-{
-    match words {
-        [word, others @ ..] => {
-            let scopes = scopes_at(alloc, word.as_bytes(), 3)?;
-            let quota = read_quota(others)?;
-            let serving = Serving {
-                user,
-                token,
-                scopes,
-                quota,
-            };
-            Ok(Command::Pipe { serving })
+impl Place {
+    ghost use Rattle.std.specs.Prelude.{◌≡◌, IfOk};
+    ghost use Rattle.rs_cli.specs.Forms.{takes};
+
+    /// Whether the place takes the word.
+    pub fn takes(self, alloc: Global, word: &str) -> Result<bool, NoMemory>
+        ensures takes { IfOk result (λ is. is ≡ takes self word.now) }
+    {
+        match self {
+            Place::User => Ok(is_user(word.as_bytes())),
+            Place::Token => Ok(Token::read(word.as_bytes()).is_some()),
+            Place::Scopes => spells_scopes(alloc, word.as_bytes()),
+            Place::Number => Ok(read_number(word).is_some()),
         }
-        [] => Err(WordFault::Word { index: 3 }),
     }
 }
 
-// The words after `pipe USER TOKEN SCOPES`.
-fn read_quota(words: &[String]) -> Result<u64, WordFault>
-    ensures read { ReadsQuota result (map string_bytes words.now) }
-{
-    match words {
-        [] => Ok(DEFAULT_QUOTA),
-        [word, others @ ..] => match read_number(word.as_str()) {
-            Some(quota) => {
-                ends(others, 5)?;
-                Ok(quota)
-            }
-            None => Err(WordFault::Word { index: 4 }),
-        },
-    }
-}
-
-// The words after `grant`.
-fn read_grant<'a>(alloc: Global, words: &'a [String]) -> Result<Command<'a>, WordFault>
-    ensures read { ReadsCommandOn 1 ((spells_scopes ∷ []) ∷ []) (codes "grant" ∷ []) result (map string_bytes words.now) }
-{
-    match words {
-        [word, others @ ..] => {
-            let scopes = scopes_at(alloc, word.as_bytes(), 1)?;
-            ends(others, 2)?;
-            Ok(Command::Grant { scopes })
-        }
-        [] => Err(WordFault::Word { index: 1 }),
-    }
-}
-
-// The words after `revoke`.
-fn read_revoke<'a>(words: &'a [String]) -> Result<Command<'a>, WordFault>
-    ensures read { ReadsCommandOn 1 ((spells_token ∷ []) ∷ []) (codes "revoke" ∷ []) result (map string_bytes words.now) }
-{
-    match words {
-        [word, others @ ..] => match Token::read(word.as_bytes()) {
-            Some(token) => {
-                ends(others, 2)?;
-                Ok(Command::Revoke { token })
-            }
-            None => Err(WordFault::Word { index: 1 }),
-        },
-        [] => Err(WordFault::Word { index: 1 }),
-    }
-}
-
-// The words after one that stands alone.
-fn read_alone<'a>(words: &'a [String], command: Command<'a>) -> Result<Command<'a>, WordFault>
-    ensures read { ReadsAlone result command.entry (map string_bytes words.now) }
-{
-    ends(words, 1)?;
-    Ok(command)
-}
-
-// The scopes that the word at the index spells.
-fn scopes_at(alloc: Global, word: &[u8], index: u64) -> Result<Scopes, WordFault>
-    ensures read { ReadsScopes result word.now index }
+fn spells_scopes(alloc: Global, word: &[u8]) -> Result<bool, NoMemory>
+    ensures spells { IfOk result (λ is. is ≡ is_ok (scopes_reading word.now)) }
 {
     match Scopes::read(alloc, word) {
-        Ok(scopes) => Ok(scopes),
-        Err(ScopeFault::Bad { .. }) => Err(WordFault::Word { index }),
-        Err(ScopeFault::NoMemory) => Err(WordFault::NoMemory),
-    }
-}
-
-// No word is left; the first that is has the index.
-fn ends(words: &[String], index: u64) -> Result<(), WordFault>
-    ensures ends { Ends result (map string_bytes words.now) index }
-{
-    match words {
-        [] => Ok(()),
-        [_, ..] => Err(WordFault::Word { index }),
+        Ok(_) => Ok(true),
+        Err(ScopeFault::Bad { .. }) => Ok(false),
+        Err(ScopeFault::NoMemory) => Err(NoMemory),
     }
 }

@@ -8,9 +8,9 @@ ghost use Rattle.rs_cli.specs.Grants.{DrawsFew, RevokeEnds, GrantEnds};
 ghost use Rattle.rs_cli.specs.Asking.{DrawsOrFails, RevokedOr, GrantedOr};
 
 use crate::asking::{ask, open_rows};
-use crate::forms::DEFAULT_QUOTA;
 use crate::note::Note;
 use crate::printing::print_line;
+use crate::reading::DEFAULT_QUOTA;
 use rs_face::{Entropy, EntropyFault, Keeper, Sink};
 use rs_rules::{Request, Tree};
 use rs_scope::{Scopes, Token};

@@ -10,6 +10,7 @@ mod laws;
 mod note;
 mod number;
 mod printing;
+mod reading;
 mod request_fault;
 mod run;
 mod serving;
@@ -17,8 +18,8 @@ mod status;
 mod texts;
 
 pub use command::{Command, RowsFile, Serving, WordFault};
-pub use forms::read_command;
 pub use laws::completeness_law;
 pub use note::Note;
+pub use reading::read_command;
 pub use run::{rows_file, run_here};
 pub use status::Status;

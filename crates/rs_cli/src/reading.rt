@@ -1,0 +1,189 @@
+//! The words of the command line read as a command.
+
+ghost use Rattle.std.specs.Prelude.{◌≡◌, ◌≤◌, true, Some, Ok, length, map, is_some, string_bytes, IfOk};
+ghost use Rattle.rs_scope.specs.Tokens.{token_reading};
+ghost use Rattle.rs_scope.specs.ScopeReadings.{scopes_reading};
+ghost use Rattle.rs_cli.specs.Numbers.{number_spelled};
+ghost use Rattle.rs_cli.specs.Forms.{takes, tests_of};
+ghost use Rattle.rs_cli.specs.Scans.{count_taken, fits};
+ghost use Rattle.rs_cli.specs.Commands.{AsksFor, FindsAmong, FindsForm, ReadsCommand, word_at};
+
+use crate::command::{Command, Serving, WordFault};
+use crate::forms::{Form, Place, forms};
+use crate::number::read_number;
+use rs_path::NoMemory;
+use rs_scope::{Scopes, Token};
+use std::alloc::Global;
+
+/// The quota where none is given, in bytes.
+pub const DEFAULT_QUOTA: u64 = 1_073_741_824;
+
+/// Reads the words, without the program's name, as a command. A word is wrong where none of the forms goes on with the
+/// words up to it; the first wrong word is told by its index, counted from 0. Where the words begin a form and none ends
+/// there, this is the number of words.
+pub fn read_command<'a>(alloc: Global, words: &'a [String]) -> Result<Command<'a>, WordFault>
+    ensures read { ReadsCommand result (map string_bytes words.now) }
+{
+    let form = find_form(alloc, words)?;
+    Ok(command_of(alloc, form, words)?)
+}
+
+// ---- the form of the words
+
+// The form that the words are in.
+fn find_form(alloc: Global, words: &[String]) -> Result<Form, WordFault>
+    ensures found { FindsForm result (map string_bytes words.now) }
+{
+    find_among(alloc, forms(), words, 0)
+}
+
+// The form among these that the words are in. Where they are in none, the first wrong word stands behind the most words that
+// took their places, in these or, so many, in others.
+fn find_among(
+    alloc: Global,
+    forms: &[Form],
+    words: &[String],
+    most: usize,
+) -> Result<Form, WordFault>
+    ensures found { FindsAmong forms.now most result (map string_bytes words.now) }
+{
+    match forms {
+        [] => Err(WordFault::Word { index: most as u64 }),
+        [form, others @ ..] => {
+            let count = count_of(alloc, *form, words)?;
+            if is_whole(*form, count, words) {
+                Ok(*form)
+            } else {
+                find_among(alloc, others, words, most.max(count))
+            }
+        }
+    }
+}
+
+// The words are in the form, where so many in front take their places.
+fn is_whole(form: Form, count: usize, words: &[String]) -> bool
+    requires count { count ≡ count_taken (tests_of form) (map string_bytes words.now) }
+    ensures whole { result ≡ fits (tests_of form) (map string_bytes words.now) }
+{
+    count == words.len() && form.row().places.len() + 1 == words.len()
+}
+
+// How many words in front take their places in the form.
+fn count_of(alloc: Global, form: Form, words: &[String]) -> Result<usize, NoMemory>
+    ensures count { IfOk result (λ count. count ≡ count_taken (tests_of form) (map string_bytes words.now)) }
+    ensures short { IfOk result (λ count. count ≤ length words.now) }
+{
+    let row = form.row();
+    match words {
+        [] => Ok(0),
+        [name, others @ ..] => {
+            if name.as_bytes() == row.name {
+                Ok(count_in(alloc, row.places, others)? + 1)
+            } else {
+                Ok(0)
+            }
+        }
+    }
+}
+
+// How many words in front take these places.
+fn count_in(alloc: Global, places: &[Place], words: &[String]) -> Result<usize, NoMemory>
+    ensures count { IfOk result (λ count. count ≡ count_taken (map takes places.now) (map string_bytes words.now)) }
+    ensures short { IfOk result (λ count. count ≤ length words.now) }
+{
+    match places {
+        [] => Ok(0),
+        [place, places @ ..] => match words {
+            [] => Ok(0),
+            [word, words @ ..] => {
+                if place.takes(alloc, word.as_str())? {
+                    Ok(count_in(alloc, places, words)? + 1)
+                } else {
+                    Ok(0)
+                }
+            }
+        },
+    }
+}
+
+// ---- the command of the words
+
+// The command that words in the form ask for.
+fn command_of<'a>(alloc: Global, form: Form, words: &'a [String]) -> Result<Command<'a>, NoMemory>
+    requires fits { fits (tests_of form) (map string_bytes words.now) ≡ true }
+    ensures asked { IfOk result (λ command. AsksFor command (map string_bytes words.now)) }
+{
+    match form {
+        Form::Pipe => {
+            let serving = serving_at(alloc, words, DEFAULT_QUOTA)?;
+            Ok(Command::Pipe { serving })
+        }
+        Form::PipeUnder => {
+            let quota = number_at(words, 4);
+            let serving = serving_at(alloc, words, quota)?;
+            Ok(Command::Pipe { serving })
+        }
+        Form::Grant => {
+            let scopes = scopes_at(alloc, words, 1)?;
+            Ok(Command::Grant { scopes })
+        }
+        Form::Revoke => {
+            let token = token_at(words, 1);
+            Ok(Command::Revoke { token })
+        }
+        Form::Help => Ok(Command::Help),
+        Form::Version => Ok(Command::Version),
+    }
+}
+
+// Whom the words `pipe USER TOKEN SCOPES ..` serve, under this quota.
+fn serving_at<'a>(alloc: Global, words: &'a [String], quota: u64) -> Result<Serving<'a>, NoMemory>
+    requires token { is_some (token_reading (word_at (map string_bytes words.now) 2)) ≡ true }
+    ensures user { IfOk result (λ serving. serving.user.now ≡ word_at (map string_bytes words.now) 1) }
+    ensures token { IfOk result (λ serving. token_reading (word_at (map string_bytes words.now) 2) ≡ Some serving.token) }
+    ensures scopes { IfOk result (λ serving. scopes_reading (word_at (map string_bytes words.now) 3) ≡ Ok serving.scopes) }
+    ensures quota { IfOk result (λ serving. serving.quota ≡ quota) }
+{
+    let scopes = scopes_at(alloc, words, 3)?;
+    Ok(Serving {
+        user: word_at(words, 1).as_bytes(),
+        token: token_at(words, 2),
+        scopes,
+        quota,
+    })
+}
+
+// The word at the index, and an empty one behind the last.
+fn word_at(words: &[String], index: usize) -> &str
+    ensures word { result.now ≡ word_at (map string_bytes words.now) index }
+{
+    if index < words.len() {
+        words[index].as_str()
+    } else {
+        ""
+    }
+}
+
+fn token_at(words: &[String], index: usize) -> Token
+    requires token { is_some (token_reading (word_at (map string_bytes words.now) index)) ≡ true }
+    ensures token { token_reading (word_at (map string_bytes words.now) index) ≡ Some result }
+{
+    Token::read(word_at(words, index).as_bytes()).unwrap()
+}
+
+fn number_at(words: &[String], index: usize) -> u64
+    requires number { is_some (number_spelled (word_at (map string_bytes words.now) index)) ≡ true }
+    ensures number { number_spelled (word_at (map string_bytes words.now) index) ≡ Some result }
+{
+    read_number(word_at(words, index)).unwrap()
+}
+
+// The scopes of a word that spells some, so that nothing but memory can be wanting.
+fn scopes_at(alloc: Global, words: &[String], index: usize) -> Result<Scopes, NoMemory>
+    ensures scopes { IfOk result (λ scopes. scopes_reading (word_at (map string_bytes words.now) index) ≡ Ok scopes) }
+{
+    match Scopes::read(alloc, word_at(words, index).as_bytes()) {
+        Ok(scopes) => Ok(scopes),
+        Err(_) => Err(NoMemory),
+    }
+}
