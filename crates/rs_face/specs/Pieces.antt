@@ -8,8 +8,14 @@ pub record SourceState : Type 0 where
   pub piece : ℕ
   pub calls : Calls
 
--- the bytes that were written, the most bytes that one write takes, and the calls
+-- the bytes that were written, and how many writes wanted memory
+pub record GrowingState : Type 0 where
+  pub bytes : List ℕ
+  pub wants : ℕ
+
+-- the bytes that were written, how many writes wanted memory, the most bytes that one write takes, and the calls
 pub record SinkState : Type 0 where
   pub bytes : List ℕ
+  pub wants : ℕ
   pub piece : ℕ
   pub calls : Calls

@@ -10,8 +10,8 @@ use crate::{NoFailSink, Sink, SinkFault};
 use std::marker::Model;
 
 /// A sink that keeps its bytes in memory, takes them in pieces, and fails where it is told to.
-/// Contracts see it as a `SinkState`: the bytes that were written, the most bytes that one write
-/// takes, and its calls.
+/// Contracts see it as a `SinkState`: the bytes that were written, how many writes wanted memory,
+/// the most bytes that one write takes, and its calls.
 #[derive(Debug, Drop)]
 pub struct MemSink {
     sink: NoFailSink,
@@ -25,7 +25,12 @@ impl Model for MemSink {
 
     ghost Value = { SinkState };
 
-    ghost view = { λ s. record { bytes = s.sink; piece = s.piece; calls = s.calls } };
+    ghost view = { λ s. record {
+      bytes = s.sink.bytes;
+      wants = s.sink.wants;
+      piece = s.piece;
+      calls = s.calls;
+    } };
 
     ghost invariant = { λ s. 0 < s.piece };
 }
@@ -36,6 +41,7 @@ impl MemSink {
     pub fn new(bytes: Vec<u8>, failing: Vec<u64>) -> MemSink
         ensures { result ≡ record {
           bytes = bytes.items;
+          wants = 0;
           piece = usize.MAX;
           calls = no_calls failing.items;
         } }
@@ -47,6 +53,7 @@ impl MemSink {
     pub fn in_pieces(bytes: Vec<u8>, piece: usize, failing: Vec<u64>) -> MemSink
         ensures { result ≡ record {
           bytes = bytes.items;
+          wants = 0;
           piece = max piece 1;
           calls = no_calls failing.items;
         } }
@@ -71,6 +78,8 @@ impl Sink for MemSink {
 
     ghost faults = { λ s. s.calls.faults };
 
+    ghost wants = { λ s. s.wants };
+
     fn write(&mut self, piece: &[u8]) -> Result<usize, SinkFault>
         ensures bound { WritesAtMost result piece.now }
         ensures some { 0 < length piece.now → IfOk result (λ count. 0 < count) }
@@ -79,6 +88,7 @@ impl Sink for MemSink {
             SinkFault.Failed result }
         // A call fails exactly where its number is in the list.
         ensures fails { IsErrOf result SinkFault.Failed ↔ IsTrue (fails_next self.old.calls) }
+        ensures want { HasCause self.old.wants self.new.wants SinkFault.NoMemory result }
         ensures count { IfOk result (λ count. count ≡ min (length piece.now) self.old.piece) }
         ensures calls { self.new.calls ≡ after_call self.old.calls }
         ensures piece { self.new.piece ≡ self.old.piece }
@@ -96,6 +106,7 @@ impl Sink for MemSink {
             SinkFault.Failed result }
         ensures fails { IsErrOf result SinkFault.Failed ↔ IsTrue (fails_next self.old.calls) }
         ensures no_other { IfErr result (λ fault. fault ≡ SinkFault.Failed) }
+        ensures content { self.new.wants ≡ self.old.wants }
         ensures calls { self.new.calls ≡ after_call self.old.calls }
         ensures piece { self.new.piece ≡ self.old.piece }
     {

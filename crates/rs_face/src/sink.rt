@@ -12,7 +12,7 @@ use std::alloc::AllocError;
 pub enum SinkFault {
     /// The sink failed, and counted a fault.
     Failed,
-    /// A sink in memory couldn't grow. This is no fault, and isn't counted.
+    /// A sink in memory couldn't grow. This is no fault, and is counted as a want of memory.
     NoMemory,
 }
 
@@ -34,6 +34,9 @@ pub trait Sink {
     /// How many writes and flushes failed so far.
     ghost faults: { Self → ℕ };
 
+    /// How many writes and flushes wanted memory so far.
+    ghost wants: { Self → ℕ };
+
     /// Takes bytes from the front of `piece`, and answers how many.
     ///
     /// Of a piece that isn't empty it takes between 1 and all of its bytes. A write that answers
@@ -45,7 +48,10 @@ pub trait Sink {
         ensures told { StaysTold (written self.old) (written self.new) }
         ensures cause { HasCause (faults self.old) (faults self.new) SinkFault.Failed result }
         ensures quiet { OnOk result (faults self.new ≡ faults self.old) }
-        ensures no_memory { IsErrOf result SinkFault.NoMemory → faults self.new ≡ faults self.old };
+        ensures no_memory { IsErrOf result SinkFault.NoMemory → faults self.new ≡ faults self.old }
+        ensures want { HasCause (wants self.old) (wants self.new) SinkFault.NoMemory result }
+        ensures content { OnOk result (wants self.new ≡ wants self.old) }
+        ensures failed { IsErrOf result SinkFault.Failed → wants self.new ≡ wants self.old };
 
     /// Hands on what the sink may hold back. Whatever it answers, what was written is as before.
     fn flush(&mut self) -> Result<(), SinkFault>
@@ -53,7 +59,10 @@ pub trait Sink {
         ensures told { StaysTold (written self.old) (written self.new) }
         ensures cause { HasCause (faults self.old) (faults self.new) SinkFault.Failed result }
         ensures quiet { OnOk result (faults self.new ≡ faults self.old) }
-        ensures no_memory { IsErrOf result SinkFault.NoMemory → faults self.new ≡ faults self.old };
+        ensures no_memory { IsErrOf result SinkFault.NoMemory → faults self.new ≡ faults self.old }
+        ensures want { HasCause (wants self.old) (wants self.new) SinkFault.NoMemory result }
+        ensures content { OnOk result (wants self.new ≡ wants self.old) }
+        ensures failed { IsErrOf result SinkFault.Failed → wants self.new ≡ wants self.old };
 }
 
 /// Writes the whole piece, in as many writes as the sink wants. After an error the sink has taken
@@ -65,6 +74,9 @@ pub fn write_all<W: Sink>(sink: &mut W, piece: &[u8]) -> Result<(), SinkFault>
     ensures cause { HasCause (W.faults sink.old) (W.faults sink.new) SinkFault.Failed result }
     ensures quiet { OnOk result (W.faults sink.new ≡ W.faults sink.old) }
     ensures no_memory { IsErrOf result SinkFault.NoMemory → W.faults sink.new ≡ W.faults sink.old }
+    ensures want { HasCause (W.wants sink.old) (W.wants sink.new) SinkFault.NoMemory result }
+    ensures content { OnOk result (W.wants sink.new ≡ W.wants sink.old) }
+    ensures failed { IsErrOf result SinkFault.Failed → W.wants sink.new ≡ W.wants sink.old }
 {
     let mut rest = piece;
     while !rest.is_empty() {

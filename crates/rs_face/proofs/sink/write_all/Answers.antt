@@ -22,4 +22,5 @@ loop-rest-preserved g c =
       wrote = (front ++ take count rest, moves_front _ front rest count split, Appends-trans _ _ _ _ _ wrote c.in_ok-count.ensures.bytes);
       told = StaysTold-trans _ _ _ c.loop-rest.invariant.told c.in_ok-count.ensures.told;
       quiet = c.in_ok-count.ensures.quiet ∙ c.loop-rest.invariant.quiet;
+      content = c.in_ok-count.ensures.content ∙ c.loop-rest.invariant.content;
     }

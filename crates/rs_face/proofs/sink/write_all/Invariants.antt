@@ -1,4 +1,4 @@
--- What is gone from `rest` was written, and no fault was counted.
+-- What is gone from `rest` was written, and no fault or want of memory was counted.
 use Rattle.std.proofs.Common.{◌≡◌, ℕ, List, ◌++◌, length}
 use Rattle.std.specs.Io.KnownBytes.{Appends}
 use Rattle.rs_face.specs.Told.{StaysTold}
@@ -9,6 +9,7 @@ invariant-loop-rest g l = record {
   wrote : (front : List ℕ) × (l.initial.rest ≡ front ++ l.rest) × Appends (g.W.Sink.written l.initial.sink) (g.W.Sink.written l.sink) front;
   told : StaysTold (g.W.Sink.written l.initial.sink) (g.W.Sink.written l.sink);
   quiet : g.W.Sink.faults l.sink ≡ g.W.Sink.faults l.initial.sink;
+  content : g.W.Sink.wants l.sink ≡ g.W.Sink.wants l.initial.sink;
 }
 
 abbrev pub decreases-loop-rest : goal.decreases-loop-rest
