@@ -1,5 +1,5 @@
 //! A sink in memory that fails by a list of calls.
-ghost use Rattle.std.specs.Prelude.{◌≡◌, ◌<◌, ◌↔◌, min, max, length, Some, IfOk, IfErr, IsErrOf, IsTrue};
+ghost use Rattle.std.specs.Prelude.{◌≡◌, ◌<◌, ◌↔◌, min, max, length, Some, IfOk, IfErr, OnOk, IsErrOf, IsTrue};
 ghost use Rattle.std.specs.Io.{WritesAtMost};
 ghost use Rattle.std.specs.Io.KnownBytes.{Keeps, WriteAppends};
 ghost use Rattle.rs_face.specs.Calls.{no_calls, fails_next, after_call};
@@ -89,6 +89,8 @@ impl Sink for MemSink {
         // A call fails exactly where its number is in the list.
         ensures fails { IsErrOf result SinkFault.Failed ↔ IsTrue (fails_next self.old.calls) }
         ensures want { HasCause self.old.wants self.new.wants SinkFault.NoMemory result }
+        ensures content { OnOk result (self.new.wants ≡ self.old.wants) }
+        ensures failed { IsErrOf result SinkFault.Failed → self.new.wants ≡ self.old.wants }
         ensures count { IfOk result (λ count. count ≡ min (length piece.now) self.old.piece) }
         ensures calls { self.new.calls ≡ after_call self.old.calls }
         ensures piece { self.new.piece ≡ self.old.piece }
