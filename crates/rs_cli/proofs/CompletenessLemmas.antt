@@ -13,7 +13,7 @@ use Rattle.rs_rules.specs.Histories.{History}
 use Rattle.rs_rules.specs.Tokens.{scopes_of}
 use Rattle.rs_rules.specs.Answers.{answer}
 use Rattle.rs_user.specs.Openings.{opening}
-use Rattle.rs_front.specs.declared.account.Account.{Account}
+use Rattle.rs_exchange.specs.declared.account.Account.{Account}
 use Rattle.rs_front.specs.declared.serve.End.{End}
 use Rattle.rs_front.specs.declared.serve.End.TheVariants as end
 use Rattle.rs_front.specs.Due.{Users}
@@ -108,21 +108,21 @@ revoke_well out token note faultless allows (inr (same, untouched, inr not)) =
     (subst (λ h. RequestFails h (RevokeRequest token) token out.rows not.refused.fault) is not.refused.fails) not.refused.said
 
 -- a connection over which nothing failed
-ends_well : (users : Users) (accounts : List Account) (source sink : Course (List ℕ)) (old : ℕ → History) (before now : ℕ)
+ends_well : (users : Users) (accounts : List Account) (source sink wants : Course (List ℕ)) (old : ℕ → History) (before now : ℕ)
     (served : Served users accounts source sink old before now) (e : End) (note : Note) → (Rose source.before source.now → ⊥) → (Rose sink.before sink.now → ⊥)
-    → EndsSo users accounts source sink old before now served e → note ≡ note_of_end e → IsGood note ⊎ (note ≡ Limit) ⊎ ((place : ℕ) × (note ≡ Message place))
-ends_well users accounts source sink old before now served end.Closed note no_source no_sink ends said = inl (inl said)
-ends_well users accounts source sink old before now served end.Limit note no_source no_sink ends said = inr (inl said)
-ends_well users accounts source sink old before now served end.ReadFault note no_source no_sink ends said = absurd (no_source ends.0)
-ends_well users accounts source sink old before now served end.WriteFault note no_source no_sink ends said = absurd (no_sink ends.0)
-ends_well users accounts source sink old before now served end.NoMemory note no_source no_sink ends said = inl (inr said)
-ends_well users accounts source sink old before now served (end.BadMessage f) note no_source no_sink ends said = inr (inr (f.place, said))
+    → EndsSo users accounts source sink wants old before now served e → note ≡ note_of_end e → IsGood note ⊎ (note ≡ Limit) ⊎ ((place : ℕ) × (note ≡ Message place))
+ends_well users accounts source sink wants old before now served end.Closed note no_source no_sink ends said = inl (inl said)
+ends_well users accounts source sink wants old before now served end.Limit note no_source no_sink ends said = inr (inl said)
+ends_well users accounts source sink wants old before now served end.ReadFault note no_source no_sink ends said = absurd (no_source ends.0)
+ends_well users accounts source sink wants old before now served end.WriteFault note no_source no_sink ends said = absurd (no_sink ends.0)
+ends_well users accounts source sink wants old before now served end.NoMemory note no_source no_sink ends said = inl (inr said)
+ends_well users accounts source sink wants old before now served (end.BadMessage f) note no_source no_sink ends said = inr (inr (f.place, said))
 
-pipes_well : (user : List ℕ) (first : History) (quota : ℕ) (rows : Course (List (List ℕ))) (source sink : Course (List ℕ)) (note : Note)
-    → (HasFailed source → ⊥) → (HasFailed sink → ⊥) → Pipes user first quota rows source sink note
+pipes_well : (user : List ℕ) (first : History) (quota : ℕ) (rows : Course (List (List ℕ))) (source sink wants : Course (List ℕ)) (note : Note)
+    → (HasFailed source → ⊥) → (HasFailed sink → ⊥) → Pipes user first quota rows source sink wants note
     → IsGood note ⊎ (note ≡ Limit) ⊎ ((place : ℕ) × (note ≡ Message place))
-pipes_well user first quota rows source sink note no_source no_sink pipes =
-    ends_well (users_of pipes.histories quota) (account_of_user user ∷ []) source sink (λ user. first) rows.before rows.now pipes.serves.0
+pipes_well user first quota rows source sink wants note no_source no_sink pipes =
+    ends_well (users_of pipes.histories quota) (account_of_user user ∷ []) source sink wants (λ user. first) rows.before rows.now pipes.serves.0
     pipes.end note no_source no_sink pipes.serves.1 pipes.said
 
 not_begun_well : (out : Outside) (token : List ℕ) (scopes : List Scope) (h : History) (f : RequestFault) (note : Note) → (HasFailed out.rows → ⊥)
@@ -133,9 +133,9 @@ not_begun_well out token scopes h f note never (inl granted) ungranted fails sai
 not_begun_well out token scopes h f note never (inr allowed) ungranted fails said = granted_well h token scopes out.rows f note allowed never fails said
 
 pipe_well : (out : Outside) (user token : List ℕ) (scopes : List Scope) (quota : ℕ) (note : Note) → IsFaultless out → AllowsPipe out token scopes
-    → PipeEnds user token scopes quota out.rows out.source out.sink note → IsGood note ⊎ (note ≡ Limit) ⊎ ((place : ℕ) × (note ≡ Message place))
+    → PipeEnds user token scopes quota out.rows out.source out.sink out.wants note → IsGood note ⊎ (note ≡ Limit) ⊎ ((place : ℕ) × (note ≡ Message place))
 pipe_well out user token scopes quota note faultless allows (inl begun) =
-    pipes_well user begun.first quota out.rows out.source out.sink note faultless.source faultless.sink begun.pipes
+    pipes_well user begun.first quota out.rows out.source out.sink out.wants note faultless.source faultless.sink begun.pipes
 pipe_well out user token scopes quota note faultless allows (inr (same, source, sink, inl not)) =
     inl (opens_well out allows.history note allows.opens faultless.rows not)
 pipe_well out user token scopes quota note faultless allows (inr (same, source, sink, inr not)) =

@@ -2,12 +2,14 @@
 use Rattle.std.specs.Prelude.{ℕ, List}
 use Rattle.rs_face.specs.Courses.{Course, IsUntouched, HasFailed}
 
--- the rows of a user, the words of the system's random source, the input and the output
+-- the rows of a user, the words of the system's random source, the input and the output, with the output's counts of wants of
+-- memory apart from those of its faults
 pub record Outside : Type 0 where
   pub rows : Course (List (List ℕ))
   pub words : Course (List ℕ)
   pub source : Course (List ℕ)
   pub sink : Course (List ℕ)
+  pub wants : Course (List ℕ)
 
 -- nothing was done
 pub record IsAsItWas (out : Outside) : Type 0 where

@@ -11,7 +11,7 @@ use Rattle.rs_rules.specs.Answers.{answer}
 use Rattle.rs_user.specs.declared.state.UserState.{UserState}
 use Rattle.rs_user.specs.Standing.{StandsFor}
 use Rattle.rs_user.specs.Openings.{AreToldRows}
-use Rattle.rs_front.specs.declared.account.Account.{Account}
+use Rattle.rs_exchange.specs.declared.account.Account.{Account}
 use Rattle.rs_front.specs.declared.serve.End.{End}
 use Rattle.rs_front.specs.Due.{Users}
 use Rattle.rs_front.specs.Ends.{Serves}
@@ -49,30 +49,30 @@ users_of histories quota = record { history = histories; quota = λ user. quota;
 
 -- a connection over the user's history, which goes on from `first`; in the end the rows are those of its last state, and are
 -- opened as that
-pub record Pipes (user : List ℕ) (first : History) (quota : ℕ) (rows : Course (List (List ℕ))) (source sink : Course (List ℕ)) (note : Note) : Type 0 where
+pub record Pipes (user : List ℕ) (first : History) (quota : ℕ) (rows : Course (List (List ℕ))) (source sink wants : Course (List ℕ)) (note : Note) : Type 0 where
   pub histories : ℕ → History
   pub end : End
-  pub serves : Serves (users_of histories quota) (account_of_user user ∷ []) source sink (λ user. first) rows.before rows.now end
+  pub serves : Serves (users_of histories quota) (account_of_user user ∷ []) source sink wants (λ user. first) rows.before rows.now end
   pub goes_on : IsFront first (histories 0)
   pub rows_are : AreToldRows rows.new (histories 0)
   pub said : note ≡ note_of_end end
 
 -- the source was served to the sink, from the history that the rows spell on
-pub record Begun (user token : List ℕ) (scopes : List Scope) (quota : ℕ) (rows : Course (List (List ℕ))) (source sink : Course (List ℕ)) (note : Note) : Type 0 where
+pub record Begun (user token : List ℕ) (scopes : List Scope) (quota : ℕ) (rows : Course (List (List ℕ))) (source sink wants : Course (List ℕ)) (note : Note) : Type 0 where
   pub history : History
   pub spelled : SpelledBy rows.old history
   pub rows_were : AreToldRows rows.old history
   pub first : History
   pub begins : WithGrant history token scopes quota first
-  pub pipes : Pipes user first quota rows source sink note
+  pub pipes : Pipes user first quota rows source sink wants note
 
 -- ---- `pipe`
 
 -- the source was served to the sink; or the rows, the source and the sink are as they were, since the rows were not opened, or
 -- the token not granted
-abbrev pub PipeEnds : (user token : List ℕ) → List Scope → ℕ → Course (List (List ℕ)) → Course (List ℕ) → Course (List ℕ) → Note → Type 0
-PipeEnds user token scopes quota rows source sink note =
-    Begun user token scopes quota rows source sink note
+abbrev pub PipeEnds : (user token : List ℕ) → List Scope → ℕ → Course (List (List ℕ)) → (source sink wants : Course (List ℕ)) → Note → Type 0
+PipeEnds user token scopes quota rows source sink wants note =
+    Begun user token scopes quota rows source sink wants note
     ⊎ (IsSame rows × IsUntouched source × IsUntouched sink × (NotOpened rows note ⊎ NotBegun token scopes rows note))
 
 -- ---- parts

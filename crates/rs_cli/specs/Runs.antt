@@ -23,7 +23,7 @@ module _ (out : Outside) where
   -- what a command does, and how it ends
   abbrev pub Does : Command → Note → Type 0
   Does (Pipe serving) note =
-      IsUntouched out.words × PipeEnds serving.user.now serving.token serving.scopes serving.quota out.rows out.source out.sink note
+      IsUntouched out.words × PipeEnds serving.user.now serving.token serving.scopes serving.quota out.rows out.source out.sink out.wants note
   Does (Grant scopes) note = IsUntouched out.source × GrantEnds scopes out.rows out.words out.sink note
   Does (Revoke token) note = IsUntouched out.source × IsUntouched out.words × RevokeEnds token out.rows out.sink note
   Does Help note = PrintsText help_text note

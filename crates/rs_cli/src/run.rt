@@ -38,6 +38,7 @@ pub fn run_here<S: Source, W: Sink, K: Keeper, E: Entropy>(
       words = course E.words E.faults entropy.old entropy.new;
       source = course S.left S.faults source.old source.new;
       sink = course W.written W.faults sink.old sink.new;
+      wants = course W.written W.wants sink.old sink.new;
     }) words result.note }
     ensures code { result.code ≡ code_of result.note }
 {
@@ -67,6 +68,7 @@ fn run_read<S: Source, W: Sink, K: Keeper, E: Entropy>(
       words = course E.words E.faults entropy.old entropy.new;
       source = course S.left S.faults source.old source.new;
       sink = course W.written W.faults sink.old sink.new;
+      wants = course W.written W.wants sink.old sink.new;
     }) words result }
 {
     match read {
@@ -88,6 +90,7 @@ fn run_command<S: Source, W: Sink, K: Keeper, E: Entropy>(
       words = course E.words E.faults entropy.old entropy.new;
       source = course S.left S.faults source.old source.new;
       sink = course W.written W.faults sink.old sink.new;
+      wants = course W.written W.wants sink.old sink.new;
     }) command.entry result }
 {
     match command {

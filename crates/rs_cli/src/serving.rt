@@ -41,7 +41,7 @@ pub fn pipe<T: Tree, S: Source, W: Sink, K: Keeper>(
     ensures ends { PipeEnds serving.entry.user.now serving.entry.token serving.entry.scopes serving.entry.quota
         (course K.rows K.faults keeper.old keeper.new)
         (course S.left S.faults source.old source.new)
-        (course W.written W.faults sink.old sink.new)
+        (course W.written W.faults sink.old sink.new) (course W.written W.wants sink.old sink.new)
         result }
 {
     let Serving {
@@ -114,7 +114,7 @@ fn serve<T: Tree, S: Source, W: Sink, K: Keeper>(
         → Pipes user h state.old.quota
         (course K.rows K.faults keeper.old keeper.new)
         (course S.left S.faults source.old source.new)
-        (course W.written W.faults sink.old sink.new)
+        (course W.written W.faults sink.old sink.new) (course W.written W.wants sink.old sink.new)
         result }
 {
     let mut desk = SoloDesk::new(state, keeper);
@@ -137,7 +137,7 @@ fn serve_desk<T: Tree, S: Source, W: Sink, K: Keeper>(
         → Pipes user h desk.old.state.now.quota
         (course K.rows K.faults desk.old.keeper.now desk.new.keeper.now)
         (course S.left S.faults source.old source.new)
-        (course W.written W.faults sink.old sink.new)
+        (course W.written W.faults sink.old sink.new) (course W.written W.wants sink.old sink.new)
         result }
     ensures same_keeper { desk.new.keeper.ghost_name ≡ desk.old.keeper.ghost_name }
     ensures same_state { desk.new.state.ghost_name ≡ desk.old.state.ghost_name }

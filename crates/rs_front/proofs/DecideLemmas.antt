@@ -10,10 +10,9 @@ use Rattle.rs_rules.specs.declared.desk.DeskFault.TheVariants.{NoMemory}
 use Rattle.rs_rules.specs.Histories.{History, up_to}
 use Rattle.rs_rules.specs.Answers.{answer}
 use Rattle.rs_rules.specs.Growth.{Grows, AddsNothing, Turned, TurnedBy, is_store_failed}
-use Rattle.rs_front.specs.declared.answer.Answer.TheVariants.{Decided}
-use Rattle.rs_front.specs.declared.answer.Answer.TheVariants as told
-use Rattle.rs_front.specs.declared.asked.Asked.TheVariants.{Desk, Preflight, Refused}
-use Rattle.rs_front.specs.declared.asked.Refusal.{Refusal}
+use Rattle.rs_exchange.specs.declared.answer.Answer.{Answer}
+use Rattle.rs_exchange.specs.declared.answer.Answer.TheVariants.{Decided}
+use Rattle.rs_exchange.specs.declared.asked.Asked.TheVariants.{Desk, Now}
 use Rattle.rs_front.specs.Due.{Users, answered, unkept, plain, starved, OthersStay}
 use Rattle.rs_front.specs.Settling.{Decides}
 
@@ -126,18 +125,9 @@ all_stand S P old user now this others other served =
     stands_by P (other == user) old user other now refl this (λ apart. others other apart served)
 
 -- a message that asks no desk
-pub plain_preflight : (old : ℕ → History) (quota me : ℕ → ℕ) (alone : Bool) (count : ℕ) → {E : Type 0}
-    → Decides {E = E} (record { history = old; quota = quota; me = me; alone = alone }) Preflight old count count (Ok told.Preflight)
-plain_preflight old quota me alone count = record {
-  outcome = plain;
-  goes_on = λ user. refl;
-  unkept = omega arith;
-  answer = refl;
-}
-
-pub plain_refused : (old : ℕ → History) (quota me : ℕ → ℕ) (alone : Bool) (count : ℕ) (refusal : Refusal) → {E : Type 0}
-    → Decides {E = E} (record { history = old; quota = quota; me = me; alone = alone }) (Refused refusal) old count count (Ok (told.Refused refusal))
-plain_refused old quota me alone count refusal = record {
+pub now_answered : (old : ℕ → History) (quota me : ℕ → ℕ) (alone : Bool) (count : ℕ) (a : Answer) → {E : Type 0}
+    → Decides {E = E} (record { history = old; quota = quota; me = me; alone = alone }) (Now a) old count count (Ok a)
+now_answered old quota me alone count a = record {
   outcome = plain;
   goes_on = λ user. refl;
   unkept = omega arith;

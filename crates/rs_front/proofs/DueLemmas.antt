@@ -11,12 +11,12 @@ use Rattle.rs_rules.specs.declared.request.Request.{Request}
 use Rattle.rs_rules.specs.declared.reply.Reply.{Reply}
 use Rattle.rs_rules.specs.Growth.{Grows}
 use Rattle.rs_wire.specs.declared.message.RequestMessage.{RequestMessage}
-use Rattle.rs_front.specs.declared.account.Account.{Account}
-use Rattle.rs_front.specs.declared.answer.Answer.TheVariants.{Decided}
-use Rattle.rs_front.specs.declared.asked.Asked.{Asked}
-use Rattle.rs_front.specs.declared.asked.Asked.TheVariants.{Desk, Preflight, Refused}
-use Rattle.rs_front.specs.Requests.{asked_of}
-use Rattle.rs_front.specs.ReplyBytes.{manner_of}
+use Rattle.rs_exchange.specs.declared.account.Account.{Account}
+use Rattle.rs_exchange.specs.declared.answer.Answer.TheVariants.{Decided}
+use Rattle.rs_exchange.specs.declared.asked.Asked.{Asked}
+use Rattle.rs_exchange.specs.declared.asked.Asked.TheVariants.{Desk, Now}
+use Rattle.rs_exchange.specs.Requests.{asked_of}
+use Rattle.rs_exchange.specs.Manners.{manner_of}
 use Rattle.rs_front.specs.Due.{Users, Outcome, answered, unkept, plain, starved, answer_of, answer_bytes, interim_of, message_bytes, due, OthersStay, AllStay, GoesOn, GoesAlong, is_unkept, HasFaults}
 
 -- ---- histories that go on
@@ -75,14 +75,10 @@ goes_later users (Desk user r) (answered n) old new goes =
 goes_later users (Desk user r) unkept old new goes = one_later user old new goes.0.others.before goes.1
 goes_later users (Desk user r) plain old new goes = absurd goes
 goes_later users (Desk user r) starved old new goes = one_later user old new goes.0.others.before goes.1
-goes_later users Preflight (answered n) old new goes = absurd goes
-goes_later users Preflight unkept old new goes = absurd goes
-goes_later users Preflight plain old new goes = all_later old new goes
-goes_later users Preflight starved old new goes = all_later old new goes
-goes_later users (Refused refusal) (answered n) old new goes = absurd goes
-goes_later users (Refused refusal) unkept old new goes = absurd goes
-goes_later users (Refused refusal) plain old new goes = all_later old new goes
-goes_later users (Refused refusal) starved old new goes = all_later old new goes
+goes_later users (Now a) (answered n) old new goes = absurd goes
+goes_later users (Now a) unkept old new goes = absurd goes
+goes_later users (Now a) plain old new goes = all_later old new goes
+goes_later users (Now a) starved old new goes = all_later old new goes
 
 along_later : (users : Users) (accounts : List Account) (ms : List RequestMessage) (os : List Outcome) (old new : ℕ → History)
     → GoesAlong users accounts ms os old new → IsLater old new
@@ -114,14 +110,10 @@ goes_same users h (Desk user r) (answered n) old new goes = goes
 goes_same users h (Desk user r) unkept old new goes = goes
 goes_same users h (Desk user r) plain old new goes = goes
 goes_same users h (Desk user r) starved old new goes = goes
-goes_same users h Preflight (answered n) old new goes = goes
-goes_same users h Preflight unkept old new goes = goes
-goes_same users h Preflight plain old new goes = goes
-goes_same users h Preflight starved old new goes = goes
-goes_same users h (Refused refusal) (answered n) old new goes = goes
-goes_same users h (Refused refusal) unkept old new goes = goes
-goes_same users h (Refused refusal) plain old new goes = goes
-goes_same users h (Refused refusal) starved old new goes = goes
+goes_same users h (Now a) (answered n) old new goes = goes
+goes_same users h (Now a) unkept old new goes = goes
+goes_same users h (Now a) plain old new goes = goes
+goes_same users h (Now a) starved old new goes = goes
 
 along_same : (users : Users) (h : ℕ → History) (accounts : List Account) (ms : List RequestMessage) (os : List Outcome) (old new : ℕ → History)
     → GoesAlong users accounts ms os old new → GoesAlong (at users h) accounts ms os old new
@@ -143,14 +135,10 @@ answer_stays users now later (Desk user r) (answered n) old middle goes first se
 answer_stays users now later (Desk user r) unkept old middle goes first second = refl
 answer_stays users now later (Desk user r) plain old middle goes first second = refl
 answer_stays users now later (Desk user r) starved old middle goes first second = refl
-answer_stays users now later Preflight (answered n) old middle goes first second = refl
-answer_stays users now later Preflight unkept old middle goes first second = refl
-answer_stays users now later Preflight plain old middle goes first second = refl
-answer_stays users now later Preflight starved old middle goes first second = refl
-answer_stays users now later (Refused refusal) (answered n) old middle goes first second = refl
-answer_stays users now later (Refused refusal) unkept old middle goes first second = refl
-answer_stays users now later (Refused refusal) plain old middle goes first second = refl
-answer_stays users now later (Refused refusal) starved old middle goes first second = refl
+answer_stays users now later (Now a) (answered n) old middle goes first second = refl
+answer_stays users now later (Now a) unkept old middle goes first second = refl
+answer_stays users now later (Now a) plain old middle goes first second = refl
+answer_stays users now later (Now a) starved old middle goes first second = refl
 
 -- what was due stays due
 pub due_stays : (users : Users) (now later : ℕ → History) (accounts : List Account) (count : ℕ) (ms : List RequestMessage) (os : List Outcome) (old : ℕ → History)

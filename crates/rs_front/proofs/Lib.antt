@@ -1,10 +1,8 @@
 pub mod Cited
-mod AskedLemmas
 mod DecideLemmas
 mod DueLemmas
 mod InputLemmas
-mod LineLemmas
 mod OutputLemmas
-mod RoomLemmas
+mod SendLemmas
 mod ServeLemmas
 mod SettleLemmas

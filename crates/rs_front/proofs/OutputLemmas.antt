@@ -7,10 +7,10 @@ use Rattle.rs_rules.specs.Histories.{History, len, up_to, with_entries}
 use Rattle.rs_rules.specs.Answers.{answer, taken, entry_of}
 use Rattle.rs_rules.specs.Growth.{Grows}
 use Rattle.rs_wire.specs.declared.message.RequestMessage.{RequestMessage}
-use Rattle.rs_front.specs.declared.account.Account.{Account}
-use Rattle.rs_front.specs.declared.asked.Asked.{Asked}
-use Rattle.rs_front.specs.declared.asked.Asked.TheVariants.{Desk, Preflight, Refused}
-use Rattle.rs_front.specs.Requests.{asked_of}
+use Rattle.rs_exchange.specs.declared.account.Account.{Account}
+use Rattle.rs_exchange.specs.declared.asked.Asked.{Asked}
+use Rattle.rs_exchange.specs.declared.asked.Asked.TheVariants.{Desk, Now}
+use Rattle.rs_exchange.specs.Requests.{asked_of}
 use Rattle.rs_front.specs.Due.{Users, Outcome, answered, unkept, plain, starved, is_whole, due, OthersStay, GoesOn, GoesAlong}
 use Rattle.rs_front.proofs.DueLemmas.{same_number}
 use Rattle.rs_front.proofs.SettleLemmas.{still_at_front}
@@ -45,20 +45,13 @@ goes_one users (Desk user r) (answered n) starved old new later alone o p goes w
 goes_one users (Desk user r) unkept q old new later alone o p goes went = cc
 goes_one users (Desk user r) plain q old new later alone o p goes went = absurd goes
 goes_one users (Desk user r) starved q old new later alone o p goes went = cc
-goes_one users Preflight plain plain old new later alone o p goes went = (refl, λ user. goes user ∙ sym (went user))
-goes_one users Preflight plain (answered n) old new later alone o p goes went = absurd went
-goes_one users Preflight plain unkept old new later alone o p goes went = cc
-goes_one users Preflight plain starved old new later alone o p goes went = cc
-goes_one users Preflight (answered n) q old new later alone o p goes went = absurd goes
-goes_one users Preflight unkept q old new later alone o p goes went = cc
-goes_one users Preflight starved q old new later alone o p goes went = cc
-goes_one users (Refused refusal) plain plain old new later alone o p goes went = (refl, λ user. goes user ∙ sym (went user))
-goes_one users (Refused refusal) plain (answered n) old new later alone o p goes went = absurd went
-goes_one users (Refused refusal) plain unkept old new later alone o p goes went = cc
-goes_one users (Refused refusal) plain starved old new later alone o p goes went = cc
-goes_one users (Refused refusal) (answered n) q old new later alone o p goes went = absurd goes
-goes_one users (Refused refusal) unkept q old new later alone o p goes went = cc
-goes_one users (Refused refusal) starved q old new later alone o p goes went = cc
+goes_one users (Now a) plain plain old new later alone o p goes went = (refl, λ user. goes user ∙ sym (went user))
+goes_one users (Now a) plain (answered n) old new later alone o p goes went = absurd went
+goes_one users (Now a) plain unkept old new later alone o p goes went = cc
+goes_one users (Now a) plain starved old new later alone o p goes went = cc
+goes_one users (Now a) (answered n) q old new later alone o p goes went = absurd goes
+goes_one users (Now a) unkept q old new later alone o p goes went = cc
+goes_one users (Now a) starved q old new later alone o p goes went = cc
 
 along_one : (users : Users) (accounts : List Account) (ms : List RequestMessage) (os ps : List Outcome) (old now later : ℕ → History)
     → users.alone ≡ true → list_all is_whole os ≡ true → list_all is_whole ps ≡ true

@@ -1,10 +1,8 @@
 -- A connection, up to some number of messages, and its ends.
 use Rattle.std.proofs.Common.{◌≡◌, ℕ, ◌+◌, ◌-◌, ◌<◌, ◌≤◌, inl, inr, Bool, true, false, List, [], ◌∷◌, ◌++◌, Option, Some, Result, Ok, Err, length, take, drop, refl, sym, ap, subst, ◌∙◌, arith, append-nil, length-append}
-use Rattle.std.proofs.Math.Seq.{take-append-add, take-length}
 use Rattle.std.specs.Io.KnownBytes.{Consumes, Appends}
 use Rattle.rs_face.proofs.Cited.{Consumes-nil, Consumes-trans, Appends-nil, Appends-trans, Rose-later}
-use Rattle.rs_face.specs.Causes.{Rose, HasCause}
-use Rattle.rs_face.specs.Told.{AppendsFront}
+use Rattle.rs_face.specs.Causes.{HasCause}
 use Rattle.rs_face.specs.declared.sink.SinkFault.{SinkFault}
 use Rattle.rs_face.specs.declared.sink.SinkFault.TheVariants as fault
 use Rattle.rs_rules.specs.Histories.{History}
@@ -14,22 +12,24 @@ use Rattle.rs_wire.specs.declared.reader.RequestReader.{RequestReader}
 use Rattle.rs_wire.specs.Division.{message_at, Divides}
 use Rattle.rs_wire.specs.Laws.{fed_at}
 use Rattle.rs_wire.specs.Readers.{Stands}
-use Rattle.rs_front.specs.declared.account.Account.{Account}
+use Rattle.rs_exchange.specs.declared.account.Account.{Account}
 use Rattle.rs_front.specs.declared.input.Next.TheVariants as next
 use Rattle.rs_front.specs.declared.serve.End.{End}
 use Rattle.rs_front.specs.declared.serve.End.TheVariants.{Closed, Limit, ReadFault, NoMemory, BadMessage}
 use Rattle.rs_face.specs.Courses.{Course}
 use Rattle.rs_front.specs.Due.{Users, answer_of, answer_bytes, interim_of, message_bytes, due}
-use Rattle.rs_front.specs.Ends.{closes, IsOpen, Served, due_of, GoesFurther, IsTail, IsPartOf, EndsSo, Serves}
-use Rattle.rs_front.specs.FaultBytes.{fault_bytes}
-use Rattle.rs_front.specs.Inputs.{ReadsNext}
-use Rattle.rs_front.specs.Requests.{asked_of}
-use Rattle.rs_front.specs.ReplyBytes.{max_replies, manner_of, starved_bytes}
+use Rattle.rs_front.specs.Ends.{closes, IsOpen, IsPrefixOf, Served, due_of, GoesFurther, IsReadShortly, IsInterimSoFar, IsCutTail, IsCut, EndsSo, Serves}
+use Rattle.rs_exchange.specs.FixedReplies.{fault_bytes}
+use Rattle.rs_front.specs.Inputs.{read_size, ReadsNext}
+use Rattle.rs_exchange.specs.Requests.{asked_of}
+use Rattle.rs_exchange.specs.FixedReplies.{starved_bytes}
+use Rattle.rs_exchange.specs.Manners.{max_replies, manner_of}
 use Rattle.rs_front.specs.Rests.{pending}
-use Rattle.rs_front.specs.Sending.{EndsWith, end_of}
+use Rattle.rs_front.specs.Sending.{IsCutOff, EndsWith, end_of}
 use Rattle.rs_front.specs.Settling.{RepliesTo}
-use Rattle.rs_front.proofs.DueLemmas.{at, along_push, due_more, faults_push}
-use Rattle.rs_front.proofs.InputLemmas.{on}
+use Rattle.rs_front.proofs.DueLemmas.{at, along_push, due_more, due_stays, goes_later, faults_push}
+use Rattle.rs_front.proofs.InputLemmas.{on, Laws, read_shortly}
+use Rattle.rs_front.proofs.SendLemmas.{cut_off}
 
 -- ---- messages with one more
 
@@ -55,7 +55,7 @@ PushLaw = (ms : List RequestMessage) (m : RequestMessage) (place : ℕ) (bytes :
 -- ---- so far
 
 -- so many messages were read and replied to, and none of them asks to close
-pub record SoFar (users : Users) (accounts : List Account) (source sink : Course (List ℕ)) (old : ℕ → History) (before now : ℕ) (reader : RequestReader) (count : ℕ) : Type 0 where
+pub record SoFar (users : Users) (accounts : List Account) (source sink wants : Course (List ℕ)) (old : ℕ → History) (before now : ℕ) (reader : RequestReader) (count : ℕ) : Type 0 where
   pub served : Served users accounts source sink old before now
   pub counted : length served.messages ≡ count
   pub going : closes served.messages ≡ false
@@ -63,13 +63,15 @@ pub record SoFar (users : Users) (accounts : List Account) (source sink : Course
   pub stands : Stands reader (fed_at served.place served.rest false)
   pub source_later : source.before ≤ source.now
   pub sink_later : sink.before ≤ sink.now
+  pub wants_later : wants.before ≤ wants.now
+  pub shortly : IsReadShortly served
 
 -- nothing was read or written
-pub nothing_served : (quota me : ℕ → ℕ) (alone : Bool) (accounts : List Account) (old : ℕ → History) (reader : RequestReader) (left written : Option (List ℕ)) (n m k : ℕ)
+pub nothing_served : (quota me : ℕ → ℕ) (alone : Bool) (accounts : List Account) (old : ℕ → History) (reader : RequestReader) (left written : Option (List ℕ)) (n m w k : ℕ)
     → Stands reader (fed_at 0 [] false)
     → SoFar (record { history = old; quota = quota; me = me; alone = alone }) accounts (record { old = left; new = left; before = n; now = n })
-    (record { old = written; new = written; before = m; now = m }) old k k reader 0
-nothing_served quota me alone accounts old reader left written n m k stands = record {
+    (record { old = written; new = written; before = m; now = m }) (record { old = written; new = written; before = w; now = w }) old k k reader 0
+nothing_served quota me alone accounts old reader left written n m w k stands = record {
   served = record {
     read = [];
     wrote = [];
@@ -91,10 +93,21 @@ nothing_served quota me alone accounts old reader left written n m k stands = re
   stands = stands;
   source_later = omega arith;
   sink_later = omega arith;
+  wants_later = omega arith;
+  shortly = omega arith;
 }
 
-module _ (grows : GrowsLaw) (push : PushLaw) (users : Users) (accounts : List Account) (source sink : Course (List ℕ)) (old : ℕ → History) (before now : ℕ) (reader : RequestReader) (count : ℕ)
-    (so_far : SoFar users accounts source sink old before now reader count) (free : count < max_replies) where
+-- the sink stopped, and counted that
+stopped : (users : Users) (accounts : List Account) (source sink wants : Course (List ℕ)) (old : ℕ → History) (before now : ℕ)
+    (served : Served users accounts source sink old before now) (said : End) → IsCut served → IsCutOff sink wants said
+    → Serves users accounts source sink wants old before now said
+stopped users accounts source sink wants old before now served said cut why = elim why [
+  | inl failed ↦ subst (Serves users accounts source sink wants old before now) (sym failed.0) (served, (failed.1, cut))
+  | inr want ↦ subst (Serves users accounts source sink wants old before now) (sym want.0) (served, inr (want.1, cut))
+]
+
+module _ (grows : GrowsLaw) (push : PushLaw) (users : Users) (accounts : List Account) (source sink wants : Course (List ℕ)) (old : ℕ → History) (before now : ℕ) (reader : RequestReader) (count : ℕ)
+    (so_far : SoFar users accounts source sink wants old before now reader count) (free : count < max_replies) where
   -- more may come
   further : GoesFurther so_far.served.messages
   further = let c = so_far.counted in (omega (arith, c, free), so_far.going)
@@ -125,117 +138,127 @@ module _ (grows : GrowsLaw) (push : PushLaw) (users : Users) (accounts : List Ac
   due_with : (bytes : List ℕ) → so_far.served.wrote ++ bytes ≡ due_of so_far.served ++ bytes
   due_with bytes = ap (λ (l : List ℕ). l ++ bytes) so_far.wrote_due
 
+  -- the sink's wants of memory by then
+  abbrev wants_to : (written : Option (List ℕ)) (w : ℕ) → Course (List ℕ)
+  wants_to written w = on wants written w
+
   -- ---- ends at which nothing more is written
 
-  pub ends_closed : (reader' : RequestReader) (left written : Option (List ℕ)) (n k : ℕ)
+  pub ends_closed : (reader' : RequestReader) (left written : Option (List ℕ)) (n k w : ℕ)
       → ReadsNext so_far.served.place so_far.served.rest reader' (record { old = source.new; new = left; before = source.now; now = n })
-      (record { old = sink.new; new = written; before = sink.now; now = k }) next.End
-      → Serves users accounts (on source left n) (on sink written k) old before now Closed
-  ends_closed reader' left written n k reads = (
+      (record { old = sink.new; new = written; before = sink.now; now = k }) (record { old = sink.new; new = written; before = wants.now; now = w }) next.End
+      → Serves users accounts (on source left n) (on sink written k) (on wants written w) old before now Closed
+  ends_closed reader' left written n k w reads = (
     served_to left written n k reads.read (so_far.served.wrote ++ []) reads.consumed (wrote_more written [] reads.comes.3),
     (append-nil so_far.served.wrote ∙ so_far.wrote_due, inr (further, reads.comes.1, reads.comes.0, reads.comes.2)),
   )
 
-  pub ends_unread : (reader' : RequestReader) (left written : Option (List ℕ)) (n k : ℕ)
+  pub ends_unread : (reader' : RequestReader) (left written : Option (List ℕ)) (n k w : ℕ)
       → ReadsNext so_far.served.place so_far.served.rest reader' (record { old = source.new; new = left; before = source.now; now = n })
-      (record { old = sink.new; new = written; before = sink.now; now = k }) next.NotRead
-      → Serves users accounts (on source left n) (on sink written k) old before now ReadFault
-  ends_unread reader' left written n k reads =
+      (record { old = sink.new; new = written; before = sink.now; now = k }) (record { old = sink.new; new = written; before = wants.now; now = w }) next.NotRead
+      → Serves users accounts (on source left n) (on sink written k) (on wants written w) old before now ReadFault
+  ends_unread reader' left written n k w reads =
       let tail = pending so_far.served.place (so_far.served.rest ++ reads.read) in (
         served_to left written n k reads.read (so_far.served.wrote ++ tail) reads.consumed (wrote_more written tail reads.comes.2),
         (Rose-later source.before source.now n so_far.source_later reads.comes.1, further, reads.comes.0, due_with tail),
       )
 
-  -- a front of what may come was written
-  part_of : (left written : Option (List ℕ)) (n k : ℕ) (read tail : List ℕ) (consumed : Consumes source.new left read)
-      → IsTail (on source left n) so_far.served.place (so_far.served.rest ++ read) tail → AppendsFront sink.new written tail
-      → (served : Served users accounts (on source left n) (on sink written k) old before now) × IsPartOf served
-  part_of left written n k read tail consumed is_tail (many, front) =
-      let all = so_far.served.wrote ++ take many tail in
-      let is : all ≡ take (length so_far.served.wrote + many) (due_of so_far.served ++ tail) =
-      sym (take-append-add so_far.served.wrote tail many) ∙ ap (take (length so_far.served.wrote + many)) (due_with tail) in (
-        served_to left written n k read all consumed (wrote_more written (take many tail) front),
-        inr (further, (tail, is_tail, (length so_far.served.wrote + many, is))),
-      )
+  -- ---- ends at which the sink stopped
 
-  pub ends_unwritten : (reader' : RequestReader) (left written : Option (List ℕ)) (n k : ℕ) (why : SinkFault)
+  -- what the sink counted since a later time, it counted since the first
+  later_cut : (mid written : Option (List ℕ)) (j k v w : ℕ) (said : End) → sink.now ≤ j → wants.now ≤ v
+      → IsCutOff (record { old = mid; new = written; before = j; now = k }) (record { old = mid; new = written; before = v; now = w }) said
+      → IsCutOff (on sink written k) (on wants written w) said
+  later_cut mid written j k v w said sinks wanted cut = elim cut [
+    | inl failed ↦ inl (failed.0, Rose-later sink.before j k (let l = so_far.sink_later in omega (arith, l, sinks)) failed.1)
+    | inr want ↦ inr (want.0, Rose-later wants.before v w (let l = so_far.wants_later in omega (arith, l, wanted)) want.1)
+  ]
+
+  -- a front of what may come was written
+  cut_behind : (left written : Option (List ℕ)) (n k w : ℕ) (read front : List ℕ) (said : End) (consumed : Consumes source.new left read)
+      → (appended : Appends sink.new written front)
+      → IsCutTail (on source left n) so_far.served.place (so_far.served.rest ++ read) front
+      → IsCutOff (on sink written k) (on wants written w) said
+      → Serves users accounts (on source left n) (on sink written k) (on wants written w) old before now said
+  cut_behind left written n k w read front said consumed appended tail cut =
+      let served = served_to left written n k read (so_far.served.wrote ++ front) consumed (wrote_more written front appended) in
+      let behind : IsCut served = inr (record { front = front; further = further; wrote = due_with front; tail = tail }) in
+      stopped users accounts (on source left n) (on sink written k) (on wants written w) old before now served said behind cut
+
+  pub ends_unwritten : (reader' : RequestReader) (left written : Option (List ℕ)) (n k w : ℕ) (why : SinkFault)
       → ReadsNext so_far.served.place so_far.served.rest reader' (record { old = source.new; new = left; before = source.now; now = n })
-      (record { old = sink.new; new = written; before = sink.now; now = k }) (next.NotWritten why)
-      → Serves users accounts (on source left n) (on sink written k) old before now (end_of why)
-  ends_unwritten reader' left written n k fault.Failed reads =
-      let part = part_of left written n k reads.read (pending so_far.served.place (so_far.served.rest ++ reads.read)) reads.consumed (inl refl) reads.comes.0 in
-      (part.0, (Rose-later sink.before sink.now k so_far.sink_later (reads.comes.1 refl), part.1))
-  ends_unwritten reader' left written n k fault.NoMemory reads =
-      part_of left written n k reads.read (pending so_far.served.place (so_far.served.rest ++ reads.read)) reads.consumed (inl refl) reads.comes.0
+      (record { old = sink.new; new = written; before = sink.now; now = k }) (record { old = sink.new; new = written; before = wants.now; now = w }) (next.NotWritten why)
+      → Serves users accounts (on source left n) (on sink written k) (on wants written w) old before now (end_of why)
+  ends_unwritten reader' left written n k w why reads =
+      let tail = pending so_far.served.place (so_far.served.rest ++ reads.read) in
+      cut_behind left written n k w reads.read (take reads.comes.0.0 tail) (end_of why) reads.consumed reads.comes.0.1
+      (inl (reads.in_time so_far.shortly, (reads.comes.0.0, refl)))
+      (later_cut sink.new written sink.now k wants.now w (end_of why) (omega arith) (omega arith) reads.comes.1)
 
   -- ---- ends with a last reply
 
   -- the last reply is written behind what was, or a front of it
-  ends_with : (left mid written : Option (List ℕ)) (n j k : ℕ) (read first last : List ℕ) (end said : End)
-      (consumed : Consumes source.new left read) → Appends sink.new mid first → sink.now ≤ j
-      → IsTail (on source left n) so_far.served.place (so_far.served.rest ++ read) (first ++ last)
-      → EndsWith (record { old = mid; new = written; before = j; now = k }) last end said
+  ends_with : (left mid written : Option (List ℕ)) (n j k v w : ℕ) (read first last : List ℕ) (end said : End)
+      (consumed : Consumes source.new left read) → Appends sink.new mid first → sink.now ≤ j → wants.now ≤ v
+      → ((front : List ℕ) → IsPrefixOf front last → IsCutTail (on source left n) so_far.served.place (so_far.served.rest ++ read) (first ++ front))
+      → EndsWith (record { old = mid; new = written; before = j; now = k }) (record { old = mid; new = written; before = v; now = w }) last end said
       → ((appended : Appends sink.old written (so_far.served.wrote ++ (first ++ last)))
-      → EndsSo users accounts (on source left n) (on sink written k) old before now (served_to left written n k read (so_far.served.wrote ++ (first ++ last)) consumed appended) end)
-      → Serves users accounts (on source left n) (on sink written k) old before now said
-  ends_with left mid written n j k read first last end said consumed wrote later is_tail ends whole = elim ends [
+      → EndsSo users accounts (on source left n) (on sink written k) (on wants written w) old before now
+      (served_to left written n k read (so_far.served.wrote ++ (first ++ last)) consumed appended) end)
+      → Serves users accounts (on source left n) (on sink written k) (on wants written w) old before now said
+  ends_with left mid written n j k v w read first last end said consumed wrote sinks wanted tail ends whole = elim ends [
     | inl all ↦
         let appended = wrote_more written (first ++ last) (Appends-trans sink.new mid written first last wrote all.0) in
-        subst (Serves users accounts (on source left n) (on sink written k) old before now) (sym all.1)
+        subst (Serves users accounts (on source left n) (on sink written k) (on wants written w) old before now) (sym all.1)
         (served_to left written n k read (so_far.served.wrote ++ (first ++ last)) consumed appended, whole appended)
     | inr front ↦
-        let appended : AppendsFront sink.new written (first ++ last) = (
-          length first + front.0.0,
-          subst (Appends sink.new written) (sym (take-append-add first last front.0.0)) (Appends-trans sink.new mid written first (take front.0.0 last) wrote front.0.1),
-        ) in
-        let part = part_of left written n k read (first ++ last) consumed is_tail appended in
-        elim front.1 [
-          | inl failed ↦
-              let rose : Rose sink.before k = Rose-later sink.before j k (let l = so_far.sink_later in omega (arith, l, later)) failed.1 in
-              subst (Serves users accounts (on source left n) (on sink written k) old before now) (sym failed.0) (part.0, (rose, part.1))
-          | inr wanted ↦ subst (Serves users accounts (on source left n) (on sink written k) old before now) (sym wanted) part
-        ]
+        cut_behind left written n k w read (first ++ take front.0.0 last) said consumed
+        (Appends-trans sink.new mid written first (take front.0.0 last) wrote front.0.1)
+        (tail (take front.0.0 last) (front.0.0, refl))
+        (later_cut mid written j k v w said sinks wanted front.1)
   ]
 
-  pub ends_bad : (reader' : RequestReader) (left mid written : Option (List ℕ)) (n j k : ℕ) (f : WireFault) (said : End)
+  pub ends_bad : (reader' : RequestReader) (left mid written : Option (List ℕ)) (n j k v w : ℕ) (f : WireFault) (said : End)
       → ReadsNext so_far.served.place so_far.served.rest reader' (record { old = source.new; new = left; before = source.now; now = n })
-      (record { old = sink.new; new = mid; before = sink.now; now = j }) (next.Bad f) → sink.now ≤ j
-      → EndsWith (record { old = mid; new = written; before = j; now = k }) (fault_bytes f.why) (BadMessage f) said
-      → Serves users accounts (on source left n) (on sink written k) old before now said
-  ends_bad reader' left mid written n j k f said reads later ends =
+      (record { old = sink.new; new = mid; before = sink.now; now = j }) (record { old = sink.new; new = mid; before = wants.now; now = v }) (next.Bad f)
+      → sink.now ≤ j → wants.now ≤ v
+      → EndsWith (record { old = mid; new = written; before = j; now = k }) (record { old = mid; new = written; before = v; now = w }) (fault_bytes f.why) (BadMessage f) said
+      → Serves users accounts (on source left n) (on sink written k) (on wants written w) old before now said
+  ends_bad reader' left mid written n j k v w f said reads sinks wanted ends =
       let tail = pending so_far.served.place (so_far.served.rest ++ reads.read) in
-      ends_with left mid written n j k reads.read tail (fault_bytes f.why) (BadMessage f) said reads.consumed reads.comes.1 later
-      (inr (inl (f, reads.comes.0, refl))) ends
+      ends_with left mid written n j k v w reads.read tail (fault_bytes f.why) (BadMessage f) said reads.consumed reads.comes.1 sinks wanted
+      (λ front part. inr (inl (f, reads.comes.0, front, refl, part))) ends
       (λ appended. (further, reads.comes.0, due_with (tail ++ fault_bytes f.why)))
 
-  -- a whole tail was written
-  whole_part : (left written : Option (List ℕ)) (n k : ℕ) (read tail : List ℕ) (consumed : Consumes source.new left read)
-      → IsTail (on source left n) so_far.served.place (so_far.served.rest ++ read) tail → (appended : Appends sink.old written (so_far.served.wrote ++ tail))
-      → IsPartOf (served_to left written n k read (so_far.served.wrote ++ tail) consumed appended)
-  whole_part left written n k read tail consumed is_tail appended = inr (
-    further,
-    (tail, is_tail, (length (due_of so_far.served ++ tail), due_with tail ∙ sym (take-length (due_of so_far.served ++ tail)))),
-  )
-
-  pub ends_starved : (reader' : RequestReader) (left mid written : Option (List ℕ)) (n j k : ℕ) (said : End)
+  pub ends_starved : (reader' : RequestReader) (left mid written : Option (List ℕ)) (n j k v w : ℕ) (said : End)
       → ReadsNext so_far.served.place so_far.served.rest reader' (record { old = source.new; new = left; before = source.now; now = n })
-      (record { old = sink.new; new = mid; before = sink.now; now = j }) next.NoMemory → sink.now ≤ j
-      → EndsWith (record { old = mid; new = written; before = j; now = k }) (starved_bytes true) NoMemory said
-      → Serves users accounts (on source left n) (on sink written k) old before now said
-  ends_starved reader' left mid written n j k said reads later ends = elim reads.comes [
-    | inl none ↦ ends_with left mid written n j k reads.read [] (starved_bytes true) NoMemory said reads.consumed none later
-        (inr (inr (inl refl))) ends (whole_part left written n k reads.read (starved_bytes true) reads.consumed (inr (inr (inl refl))))
-    | inr told ↦
-        let tail = pending so_far.served.place (so_far.served.rest ++ reads.read) in
-        ends_with left mid written n j k reads.read tail (starved_bytes true) NoMemory said reads.consumed told later
-        (inr (inr (inr refl))) ends (whole_part left written n k reads.read (tail ++ starved_bytes true) reads.consumed (inr (inr (inr refl))))
+      (record { old = sink.new; new = mid; before = sink.now; now = j }) (record { old = sink.new; new = mid; before = wants.now; now = v }) next.NoMemory
+      → sink.now ≤ j → wants.now ≤ v
+      → EndsWith (record { old = mid; new = written; before = j; now = k }) (record { old = mid; new = written; before = v; now = w }) (starved_bytes true) NoMemory said
+      → Serves users accounts (on source left n) (on sink written k) (on wants written w) old before now said
+  ends_starved reader' left mid written n j k v w said reads sinks wanted ends = elim reads.comes [
+    | inl none ↦ by_first [] none (inl refl)
+    | inr told ↦ by_first (pending so_far.served.place (so_far.served.rest ++ reads.read)) told (inr refl)
   ]
+    where
+      by_first : (first : List ℕ) → Appends sink.new mid first → IsInterimSoFar so_far.served.place (so_far.served.rest ++ reads.read) first
+          → Serves users accounts (on source left n) (on sink written k) (on wants written w) old before now said
+      by_first first wrote so_far' =
+          ends_with left mid written n j k v w reads.read first (starved_bytes true) NoMemory said reads.consumed wrote sinks wanted
+          (λ front part. inr (inr (first, front, so_far', refl, part))) ends
+          (λ appended. inl (record { first = first; further = further; so_far = so_far'; wrote = due_with (first ++ starved_bytes true) }))
 
   -- ---- a message
 
-  module _ (new : ℕ → History) (faults : ℕ) (reader' : RequestReader) (left mid written : Option (List ℕ)) (n j k : ℕ) (m : RequestMessage)
+  module _ (laws : Laws) (new : ℕ → History) (faults : ℕ) (reader' : RequestReader) (left mid written : Option (List ℕ)) (n j k v w : ℕ) (m : RequestMessage)
       (reads : ReadsNext so_far.served.place so_far.served.rest reader' (record { old = source.new; new = left; before = source.now; now = n })
-      (record { old = sink.new; new = mid; before = sink.now; now = j }) (next.Message m)) where
+      (record { old = sink.new; new = mid; before = sink.now; now = j }) (record { old = sink.new; new = mid; before = wants.now; now = v }) (next.Message m)) where
+    -- what was read behind the message is less than one read gives
+    shortly_now : length (drop (reads.comes.0 - so_far.served.place) (so_far.served.rest ++ reads.read)) < read_size
+    shortly_now =
+        let in_time = reads.in_time so_far.shortly in
+        read_shortly laws so_far.served.place (so_far.served.rest ++ reads.read) in_time.0 m reads.comes.0 in_time.1 reads.comes.1
+
     -- what the reply says of the message, whether it was written or not
     abbrev Replied : {A E : Type 0} → Result A E → Type 0
     Replied result = RepliesTo (at users new) accounts count m users.history now faults (record { old = mid; new = written; before = j; now = k }) result
@@ -270,9 +293,9 @@ module _ (grows : GrowsLaw) (push : PushLaw) (users : Users) (accounts : List Ac
         ∙ sym (due_more users users.history new accounts so_far.served.messages so_far.served.outcomes m replied.outcome old so_far.served.along replied.goes_on
         ∙ ap (λ c. due_of so_far.served ++ message_bytes (at users new) accounts c m replied.outcome) so_far.counted)
 
-    pub served_more : {A E : Type 0} (x : A) → Replied {A = A} {E = E} (Ok x) → m.close ≡ false → source.now ≤ n → sink.now ≤ k
-        → SoFar (at users new) accounts (on source left n) (on sink written k) old before faults reader' (count + 1)
-    served_more {A} {E} x replied open_ source_later sink_later =
+    pub served_more : {A E : Type 0} (x : A) → Replied {A = A} {E = E} (Ok x) → m.close ≡ false → source.now ≤ n → sink.now ≤ k → wants.now ≤ w
+        → SoFar (at users new) accounts (on source left n) (on sink written k) (on wants written w) old before faults reader' (count + 1)
+    served_more {A} {E} x replied open_ source_later sink_later wants_later =
         let wrote = Appends-trans sink.new mid written (interim_of m) (answer_bytes (manner_of count m) (answer_of (at users new) (asked_of accounts m) replied.outcome)) reads.comes.3 replied.writes in
         record {
           served = pushed {A = A} {E = E} (Ok x) replied (so_far.served.wrote ++ bytes_of {A = A} {E = E} (Ok x) replied) (wrote_more written (bytes_of {A = A} {E = E} (Ok x) replied) wrote);
@@ -282,43 +305,51 @@ module _ (grows : GrowsLaw) (push : PushLaw) (users : Users) (accounts : List Ac
           stands = reads.comes.2;
           source_later = let l = so_far.source_later in omega (arith, l, source_later);
           sink_later = let l = so_far.sink_later in omega (arith, l, sink_later);
+          wants_later = let l = so_far.wants_later in omega (arith, l, wants_later);
+          shortly = shortly_now;
         }
 
     pub ends_asked : {A E : Type 0} (x : A) → Replied {A = A} {E = E} (Ok x) → m.close ≡ true
-        → Serves (at users new) accounts (on source left n) (on sink written k) old before faults Closed
+        → Serves (at users new) accounts (on source left n) (on sink written k) (on wants written w) old before faults Closed
     ends_asked {A} {E} x replied close =
         let wrote = Appends-trans sink.new mid written (interim_of m) (answer_bytes (manner_of count m) (answer_of (at users new) (asked_of accounts m) replied.outcome)) reads.comes.3 replied.writes in (
           pushed {A = A} {E = E} (Ok x) replied (so_far.served.wrote ++ bytes_of {A = A} {E = E} (Ok x) replied) (wrote_more written (bytes_of {A = A} {E = E} (Ok x) replied) wrote),
-          (due_now {A = A} {E = E} (Ok x) replied, inl (closes_push so_far.served.messages m ∙ close)),
+          (due_now {A = A} {E = E} (Ok x) replied, inl (closes_push so_far.served.messages m ∙ close, shortly_now)),
         )
 
     -- its reply couldn't be written
-    pub ends_unreplied : {A : Type 0} (why : SinkFault) → Replied {A = A} {E = SinkFault} (Err why) → HasCause {A = A} j k fault.Failed (Err why) → sink.now ≤ j
-        → Serves (at users new) accounts (on source left n) (on sink written k) old before faults (end_of why)
-    ends_unreplied {A} why replied cause later =
+    pub ends_unreplied : {A : Type 0} (why : SinkFault) → Replied {A = A} {E = SinkFault} (Err why) → HasCause {A = A} j k fault.Failed (Err why)
+        → HasCause {A = A} v w fault.NoMemory (Err why) → sink.now ≤ j → wants.now ≤ v
+        → Serves (at users new) accounts (on source left n) (on sink written k) (on wants written w) old before faults (end_of why)
+    ends_unreplied {A} why replied cause want sinks wanted =
         let reply = answer_bytes (manner_of count m) (answer_of (at users new) (asked_of accounts m) replied.outcome) in
-        let many = length (interim_of m) + replied.writes.0 in
-        let wrote : Appends sink.new written (take many (bytes_of {A = A} {E = SinkFault} (Err why) replied)) =
-        subst (Appends sink.new written) (sym (take-append-add (interim_of m) reply replied.writes.0))
-        (Appends-trans sink.new mid written (interim_of m) (take replied.writes.0 reply) reads.comes.3 replied.writes.1) in
-        let all = so_far.served.wrote ++ take many (bytes_of {A = A} {E = SinkFault} (Err why) replied) in
-        let is : all ≡ take (length so_far.served.wrote + many) (due (at users new) accounts 0 (so_far.served.messages ++ m ∷ []) (so_far.served.outcomes ++ replied.outcome ∷ [])) =
-        sym (take-append-add so_far.served.wrote (bytes_of {A = A} {E = SinkFault} (Err why) replied) many)
-        ∙ ap (take (length so_far.served.wrote + many)) (due_now {A = A} {E = SinkFault} (Err why) replied) in
-        let served = pushed {A = A} {E = SinkFault} (Err why) replied all (wrote_more written (take many (bytes_of {A = A} {E = SinkFault} (Err why) replied)) wrote) in
-        by_why why served (inl (length so_far.served.wrote + many, is)) cause
-      where
-        by_why : (why : SinkFault) (served : Served (at users new) accounts (on source left n) (on sink written k) old before faults)
-            → IsPartOf served → HasCause {A = A} j k fault.Failed (Err why)
-            → Serves (at users new) accounts (on source left n) (on sink written k) old before faults (end_of why)
-        by_why fault.Failed served part cause =
-            (served, (Rose-later sink.before j k (let l = so_far.sink_later in omega (arith, l, later)) (cause.failed refl), part))
-        by_why fault.NoMemory served part cause = (served, part)
+        let front = take replied.writes.0 reply in
+        let wrote = Appends-trans sink.new mid written (interim_of m) front reads.comes.3 replied.writes.1 in
+        let all = so_far.served.wrote ++ (interim_of m ++ front) in
+        let served = pushed {A = A} {E = SinkFault} (Err why) replied all (wrote_more written (interim_of m ++ front) wrote) in
+        let goes = goes_later (at users new) (asked_of accounts m) replied.outcome users.history new replied.goes_on in
+        let stays = due_stays users users.history new accounts 0 so_far.served.messages so_far.served.outcomes old so_far.served.along goes in
+        let cut : IsCut served = inl (record {
+          messages = so_far.served.messages;
+          outcomes = so_far.served.outcomes;
+          last = m;
+          outcome = replied.outcome;
+          front = front;
+          all = refl;
+          each = refl;
+          wrote = due_with (interim_of m ++ front) ∙ ap (λ (l : List ℕ). l ++ (interim_of m ++ front)) (sym stays);
+          part = subst (λ (c : ℕ). IsPrefixOf front (answer_bytes (manner_of c m) (answer_of (at users new) (asked_of accounts m) replied.outcome)))
+              (sym so_far.counted) (replied.writes.0, refl);
+          shortly = shortly_now;
+        }) in
+        stopped (at users new) accounts (on source left n) (on sink written k) (on wants written w) old before faults served (end_of why) cut
+        (later_cut mid written j k v w (end_of why) sinks wanted
+        (cut_off (record { old = mid; new = written; before = j; now = k }) (record { old = mid; new = written; before = v; now = w }) why {A = A} cause want))
 
 -- as many as are served
-pub ends_limit : (users : Users) (accounts : List Account) (source sink : Course (List ℕ)) (old : ℕ → History) (before now : ℕ) (reader : RequestReader) (count : ℕ)
-    → SoFar users accounts source sink old before now reader count → count ≡ max_replies → Serves users accounts source sink old before now Limit
-ends_limit users accounts source sink old before now reader count so_far all = (so_far.served, (so_far.counted ∙ all, so_far.going, so_far.wrote_due))
+pub ends_limit : (users : Users) (accounts : List Account) (source sink wants : Course (List ℕ)) (old : ℕ → History) (before now : ℕ) (reader : RequestReader) (count : ℕ)
+    → SoFar users accounts source sink wants old before now reader count → count ≡ max_replies → Serves users accounts source sink wants old before now Limit
+ends_limit users accounts source sink wants old before now reader count so_far all = (so_far.served, (so_far.counted ∙ all, so_far.going, so_far.wrote_due, so_far.shortly))
 
 -- what a reply says of users holds where their quotas, numbers and desk are the same
 pub replies_as : (h : ℕ → History) (quota quota' me me' : ℕ → ℕ) (alone alone' : Bool) (accounts : List Account) (count : ℕ) (m : RequestMessage) (old : ℕ → History)

@@ -1,5 +1,5 @@
 -- A message for which memory was wanted has taken nothing.
-use Rattle.std.proofs.Common.{◌≡◌, ℕ, ◌+◌, ◌-◌, ◌≤◌, min, Bool, true, List, [], ◌++◌, Option, Some, None, Result, Ok, Err, IfOk, OnErr, refl, sym, ◌∙◌, ap, subst, arith, append-nil, length, take}
+use Rattle.std.proofs.Common.{◌≡◌, ℕ, ◌+◌, ◌-◌, ◌≤◌, min, ◌||◌, Bool, true, List, [], ◌++◌, Some, None, Result, Ok, Err, IfOk, OnErr, refl, sym, ◌∙◌, ap, subst, arith, append-nil, length, take}
 use Rattle.std.proofs.lemmas.List.{length-append, length-take, nil_from_length}
 use Rattle.rs_face.specs.Courses.{Course, Writes}
 use Rattle.rs_path.specs.declared.log_entry.LogEntry.{LogEntry}
@@ -12,16 +12,21 @@ use Rattle.rs_rules.specs.Histories.{Base, History, len, up_to, with_entries, Is
 use Rattle.rs_rules.specs.Answers.{answer, taken, record_of, entry_of}
 use Rattle.rs_path.specs.Logs.{own}
 use Rattle.rs_rules.specs.Growth.{Grows, AddsNothing}
-use Rattle.rs_front.specs.declared.answer.Answer.{Answer}
-use Rattle.rs_front.specs.declared.answer.Answer.TheVariants.{Decided}
-use Rattle.rs_front.specs.declared.asked.Asked.{Asked}
-use Rattle.rs_front.specs.declared.asked.Asked.TheVariants.{Desk, Preflight, Refused}
-use Rattle.rs_front.specs.declared.manner.Manner.{Manner}
-use Rattle.rs_front.specs.declared.reply.Written.{Written}
+use Rattle.rs_exchange.specs.declared.answer.Answer.{Answer}
+use Rattle.rs_exchange.specs.declared.answer.Answer.TheVariants.{Decided}
+use Rattle.rs_exchange.specs.declared.asked.Asked.{Asked}
+use Rattle.rs_exchange.specs.declared.asked.Asked.TheVariants.{Desk, Now}
+use Rattle.rs_exchange.specs.declared.manner.Manner.{Manner}
+use Rattle.rs_exchange.specs.declared.reply.Written.{Written}
 use Rattle.rs_wire.specs.declared.message.RequestMessage.{RequestMessage}
-use Rattle.rs_front.specs.declared.account.Account.{Account}
-use Rattle.rs_front.specs.ReplyBytes.{has_content, reply_head, sent_body, manner_of, starved_bytes}
-use Rattle.rs_front.specs.Requests.{asked_of}
+use Rattle.rs_exchange.specs.declared.account.Account.{Account}
+use Rattle.rs_exchange.specs.FixedReplies.{starved_bytes}
+use Rattle.rs_exchange.specs.Manners.{is_head, is_last, manner_of}
+use Rattle.rs_exchange.specs.Replies.{reply_bytes, has_content}
+use Rattle.rs_exchange.specs.Asking.{AsksOf}
+use Rattle.rs_exchange.specs.Requests.{asked_line, asked_of}
+use Rattle.rs_exchange.specs.Targets.{RequestLine, line_of}
+use Rattle.rs_wire.specs.declared.field.Field.{Field}
 use Rattle.rs_front.specs.Due.{Users, Outcome, answered, unkept, plain, starved, answer_of, answer_bytes, GoesOn}
 use Rattle.rs_front.specs.Settling.{Decides, Settles, RepliesTo}
 
@@ -39,8 +44,7 @@ stays h me alone = record {
 starved_stays : (asked : Asked) (old : ℕ → History) (quota me : ℕ → ℕ) (alone : Bool)
     → GoesOn (record { history = old; quota = quota; me = me; alone = alone }) asked starved old old
 starved_stays (Desk user r) old quota me alone = (stays (old user) (me user) alone, λ other apart. refl)
-starved_stays Preflight old quota me alone = λ user. refl
-starved_stays (Refused refusal) old quota me alone = λ user. refl
+starved_stays (Now a) old quota me alone = λ user. refl
 
 -- memory was wanted before the desk was asked
 pub settles_early : (manner : Manner) (asked : Asked) (old : ℕ → History) (quota me : ℕ → ℕ) (alone : Bool) (count : ℕ) → {E : Type 0} (e : E)
@@ -130,14 +134,10 @@ content_starved users (Desk user r) (answered n) old a goes is content =
 content_starved users (Desk user r) unkept old a goes is content = goes
 content_starved users (Desk user r) plain old a goes is content = elim goes [ ]
 content_starved users (Desk user r) starved old a goes is content = goes
-content_starved users Preflight (answered n) old a goes is content = elim goes [ ]
-content_starved users Preflight unkept old a goes is content = elim goes [ ]
-content_starved users Preflight plain old a goes is content = goes
-content_starved users Preflight starved old a goes is content = goes
-content_starved users (Refused refusal) (answered n) old a goes is content = elim goes [ ]
-content_starved users (Refused refusal) unkept old a goes is content = elim goes [ ]
-content_starved users (Refused refusal) plain old a goes is content = goes
-content_starved users (Refused refusal) starved old a goes is content = goes
+content_starved users (Now b) (answered n) old a goes is content = elim goes [ ]
+content_starved users (Now b) unkept old a goes is content = elim goes [ ]
+content_starved users (Now b) plain old a goes is content = goes
+content_starved users (Now b) starved old a goes is content = goes
 
 -- memory was wanted at the desk
 pub settles_unanswered : (users : Users) (manner : Manner) (asked : Asked) (old : ℕ → History) (before now : ℕ) → {E F : Type 0} (e : E) (f : F)
@@ -168,24 +168,23 @@ settles_unwritten users manner asked old before now a f later content decided = 
 
 -- the reply was made
 pub settles_written : (users : Users) (manner : Manner) (asked : Asked) (old : ℕ → History) (before now : ℕ) (a : Answer) (w : Written) → {E F : Type 0}
-    → w.head.items ≡ reply_head manner a → w.body ≡ sent_body manner a → Decides {E = E} users asked old before now (Ok a)
+    → w.head.items ++ w.body ≡ reply_bytes manner a → Decides {E = E} users asked old before now (Ok a)
     → Settles {E = F} users manner asked old before now (Ok w)
-settles_written users manner asked old before now a w head body decided = record {
+settles_written users manner asked old before now a w bytes decided = record {
   outcome = decided.outcome;
   goes_on = decided.goes_on;
   unkept = decided.unkept;
-  written = ap (λ (l : List ℕ). l ++ w.body) head ∙ ap (λ (l : List ℕ). reply_head manner a ++ l) body
-      ∙ ap (answer_bytes manner) (sym decided.answer);
+  written = bytes ∙ ap (answer_bytes manner) (sym decided.answer);
 }
 
 -- the reply, made or not
 pub settles_by : (users : Users) (manner : Manner) (asked wanted : Asked) (old : ℕ → History) (before now : ℕ) (a : Answer) → {E F : Type 0} (r : Result Written F)
-    → before ≤ now → asked ≡ wanted → IfOk r (λ w. w.head.items ≡ reply_head manner a) → IfOk r (λ w. w.body ≡ sent_body manner a)
+    → before ≤ now → asked ≡ wanted → IfOk r (λ w. w.head.items ++ w.body ≡ reply_bytes manner a)
     → OnErr r (has_content a ≡ true) → Decides {E = E} users asked old before now (Ok a)
     → Settles {E = F} users manner wanted old before now r
-settles_by users manner asked wanted old before now a {E} {F} (Ok w) later same head body made decided =
-    subst (λ (q : Asked). Settles {E = F} users manner q old before now (Ok w)) same (settles_written users manner asked old before now a w head body decided)
-settles_by users manner asked wanted old before now a {E} {F} (Err f) later same head body made decided =
+settles_by users manner asked wanted old before now a {E} {F} (Ok w) later same bytes made decided =
+    subst (λ (q : Asked). Settles {E = F} users manner q old before now (Ok w)) same (settles_written users manner asked old before now a w bytes decided)
+settles_by users manner asked wanted old before now a {E} {F} (Err f) later same bytes made decided =
     subst (λ (q : Asked). Settles {E = F} users manner q old before now (Err f)) same (settles_unwritten users manner asked old before now a f later made decided)
 
 -- what was settled and made was sent
@@ -203,21 +202,49 @@ replies_made users accounts count m old before now sink manner w r same settled 
 
 none_is : (users : Users) (asked : Asked) → answer_of users asked starved ≡ None
 none_is users (Desk user r) = refl
-none_is users Preflight = refl
-none_is users (Refused refusal) = refl
+none_is users (Now a) = refl
 
 -- memory was wanted, and the fixed reply was sent
 pub replies_starved : (users : Users) (accounts : List Account) (count : ℕ) (m : RequestMessage) (old : ℕ → History) (before now : ℕ)
     (sink : Course (List ℕ)) (manner : Manner) → {A E F : Type 0} (e : E) (r : Result A F) → manner ≡ manner_of count m
     → Settles {E = E} users manner (asked_of accounts m) old before now (Err e)
-    → (h b : List ℕ) → h ≡ starved_bytes manner.closing → b ≡ [] → Writes sink (h ++ b) r
+    → (bytes : List ℕ) → bytes ≡ starved_bytes manner.closing → Writes sink bytes r
     → RepliesTo users accounts count m old before now sink r
-replies_starved users accounts count m old before now sink manner e r same settled h b fixed none sent = record {
+replies_starved users accounts count m old before now sink manner e r same settled bytes fixed sent = record {
   outcome = settled.outcome;
   goes_on = settled.goes_on;
   unkept = settled.unkept;
   writes = subst (λ (l : List ℕ). Writes sink l r)
-      (ap (λ (l : List ℕ). h ++ l) none ∙ append-nil h ∙ fixed ∙ ap (λ (k : Manner). starved_bytes k.closing) same
+      (fixed ∙ ap (λ (k : Manner). starved_bytes k.closing) same
       ∙ ap (answer_bytes (manner_of count m)) (sym (none_is users (asked_of accounts m)))
       ∙ ap (λ (o : Outcome). answer_bytes (manner_of count m) (answer_of users (asked_of accounts m) o)) (sym settled.written)) sent;
 }
+
+-- the user that is asked is served where these are
+pub served_by : (S T : ℕ → Type 0) (asked : Asked) → ((user : ℕ) → S user → T user) → AsksOf S asked → AsksOf T asked
+served_by S T (Desk user r) all served = all user served
+served_by S T (Now a) all served = served
+
+-- ---- a message's parts
+
+-- the request line that was read of a message
+pub line_is : (accounts : List Account) (m : RequestMessage) (method target : List ℕ) (line : RequestLine) → line ≡ line_of accounts method target
+    → method ≡ m.method → target ≡ m.target → line ≡ line_of accounts m.method m.target
+line_is accounts m method target line is same_method same_target =
+    is ∙ ap (λ (l : List ℕ). line_of accounts l target) same_method ∙ ap (line_of accounts m.method) same_target
+
+-- the manner that was made of it
+pub manner_is : (accounts : List Account) (count : ℕ) (m : RequestMessage) (line : RequestLine) (manner : Manner) → line ≡ line_of accounts m.method m.target
+    → manner ≡ record { shared = line.shared; bodiless = is_head line.verb; closing = m.close || is_last count } → manner ≡ manner_of count m
+manner_is accounts count m line manner same is =
+    is ∙ ap (λ (l : RequestLine). record { shared = l.shared; bodiless = is_head l.verb; closing = m.close || is_last count }) same
+
+-- what the message asks by its parts
+pub asked_is : (accounts : List Account) (m : RequestMessage) (fields : List Field) (line : RequestLine) → fields ≡ m.fields
+    → line ≡ line_of accounts m.method m.target → asked_line fields m.body line ≡ asked_of accounts m
+asked_is accounts m fields line same_fields same_line =
+    ap (λ (f : List Field). asked_line f m.body line) same_fields ∙ ap (asked_line m.fields m.body) same_line
+
+pub settles_as : (users : Users) (manner : Manner) (asked wanted : Asked) (old : ℕ → History) (before now : ℕ) → {E : Type 0} (r : Result Written E) → asked ≡ wanted
+    → Settles {E = E} users manner asked old before now r → Settles {E = E} users manner wanted old before now r
+settles_as users manner asked wanted old before now {E} r same settled = subst (λ (q : Asked). Settles {E = E} users manner q old before now r) same settled

@@ -6,14 +6,16 @@ use Rattle.rs_rules.specs.Answers.{answer}
 use Rattle.rs_rules.specs.Growth.{Grows, AddsNothing}
 use Rattle.rs_wire.specs.declared.message.RequestMessage.{RequestMessage}
 use Rattle.rs_wire.specs.Laws.{awaits}
-use Rattle.rs_front.specs.declared.account.Account.{Account}
-use Rattle.rs_front.specs.declared.answer.Answer.{Answer}
-use Rattle.rs_front.specs.declared.answer.Answer.TheVariants.{Decided, Preflight, Refused}
-use Rattle.rs_front.specs.declared.asked.Asked.{Asked}
-use Rattle.rs_front.specs.declared.asked.Asked.TheVariants as asked
-use Rattle.rs_front.specs.declared.manner.Manner.{Manner}
-use Rattle.rs_front.specs.Requests.{asked_of}
-use Rattle.rs_front.specs.ReplyBytes.{manner_of, reply_bytes, starved_bytes, interim_bytes}
+use Rattle.rs_exchange.specs.declared.account.Account.{Account}
+use Rattle.rs_exchange.specs.declared.answer.Answer.{Answer}
+use Rattle.rs_exchange.specs.declared.answer.Answer.TheVariants.{Decided}
+use Rattle.rs_exchange.specs.declared.asked.Asked.{Asked}
+use Rattle.rs_exchange.specs.declared.asked.Asked.TheVariants as asked
+use Rattle.rs_exchange.specs.declared.manner.Manner.{Manner}
+use Rattle.rs_exchange.specs.Requests.{asked_of}
+use Rattle.rs_exchange.specs.FixedReplies.{starved_bytes, interim_bytes}
+use Rattle.rs_exchange.specs.Manners.{manner_of}
+use Rattle.rs_exchange.specs.Replies.{reply_bytes}
 
 -- the users of a desk by number: the history of each, its quota, the number that the desk asks under, and whether nobody else
 -- asks
@@ -41,10 +43,8 @@ answer_of users (asked.Desk user r) (answered n) = Some (Decided (answer (up_to 
 answer_of users (asked.Desk user r) unkept = Some (Decided StoreFailed)
 answer_of users (asked.Desk user r) plain = None
 answer_of users (asked.Desk user r) starved = None
-answer_of users asked.Preflight plain = Some Preflight
-answer_of users asked.Preflight other = None
-answer_of users (asked.Refused refusal) plain = Some (Refused refusal)
-answer_of users (asked.Refused refusal) other = None
+answer_of users (asked.Now answer) plain = Some answer
+answer_of users (asked.Now answer) other = None
 
 -- the reply, which is the fixed one where memory was wanted
 abbrev pub answer_bytes : Manner → Option Answer → List ℕ
@@ -88,14 +88,10 @@ GoesOn users (asked.Desk user r) (answered n) old new =
 GoesOn users (asked.Desk user r) unkept old new = AddsNothing (old user) (new user) (users.me user) users.alone × OthersStay user old new
 GoesOn users (asked.Desk user r) plain old new = ⊥
 GoesOn users (asked.Desk user r) starved old new = AddsNothing (old user) (new user) (users.me user) users.alone × OthersStay user old new
-GoesOn users asked.Preflight (answered n) old new = ⊥
-GoesOn users asked.Preflight unkept old new = ⊥
-GoesOn users asked.Preflight plain old new = AllStay old new
-GoesOn users asked.Preflight starved old new = AllStay old new
-GoesOn users (asked.Refused refusal) (answered n) old new = ⊥
-GoesOn users (asked.Refused refusal) unkept old new = ⊥
-GoesOn users (asked.Refused refusal) plain old new = AllStay old new
-GoesOn users (asked.Refused refusal) starved old new = AllStay old new
+GoesOn users (asked.Now answer) (answered n) old new = ⊥
+GoesOn users (asked.Now answer) unkept old new = ⊥
+GoesOn users (asked.Now answer) plain old new = AllStay old new
+GoesOn users (asked.Now answer) starved old new = AllStay old new
 
 -- over messages with these outcomes, each on from the last; there are as many outcomes as messages
 abbrev pub GoesAlong : Users → List Account → List RequestMessage → List Outcome → (ℕ → History) → (ℕ → History) → Type 0

@@ -7,13 +7,15 @@ use Rattle.rs_wire.specs.declared.message.RequestMessage.{RequestMessage}
 use Rattle.rs_wire.specs.Division.{Divides}
 use Rattle.rs_wire.specs.Laws.{fed_at}
 use Rattle.rs_wire.specs.Readings.{more, finish_of}
-use Rattle.rs_front.specs.declared.account.Account.{Account}
+use Rattle.rs_exchange.specs.declared.account.Account.{Account}
 use Rattle.rs_front.specs.declared.serve.End.{End}
 use Rattle.rs_front.specs.declared.serve.End.TheVariants.{Closed, Limit, ReadFault, WriteFault, NoMemory, BadMessage}
 use Rattle.rs_face.specs.Courses.{Course, HasFailed}
-use Rattle.rs_front.specs.Due.{Users, Outcome, due, GoesAlong, HasFaults}
-use Rattle.rs_front.specs.FaultBytes.{fault_bytes}
-use Rattle.rs_front.specs.ReplyBytes.{max_replies, starved_bytes}
+use Rattle.rs_front.specs.Due.{Users, Outcome, answer_of, answer_bytes, interim_of, due, GoesAlong, HasFaults}
+use Rattle.rs_exchange.specs.FixedReplies.{fault_bytes, starved_bytes}
+use Rattle.rs_exchange.specs.Manners.{max_replies, manner_of}
+use Rattle.rs_exchange.specs.Requests.{asked_of}
+use Rattle.rs_front.specs.Inputs.{read_size, IsLazy}
 use Rattle.rs_front.specs.Rests.{after_last, pending, HasFault}
 
 -- ---- what was served
@@ -51,6 +53,10 @@ pub record Served (users : Users) (accounts : List Account) (source sink : Cours
   pub few : length messages ≤ max_replies
   pub open_so_far : IsOpen messages
 
+-- the interim reply to a message that didn't come whole was written, where it was due, or wasn't yet
+abbrev pub IsInterimSoFar : ℕ → List ℕ → List ℕ → Type 0
+IsInterimSoFar place rest wrote = (wrote ≡ []) ⊎ (wrote ≡ pending place rest)
+
 -- the bytes that are due of the messages
 abbrev pub due_of : {users : Users} {accounts : List Account} {source sink : Course (List ℕ)} {old : ℕ → History} {before now : ℕ}
     → Served users accounts source sink old before now → List ℕ
@@ -60,44 +66,76 @@ due_of {users} {accounts} served = due users accounts 0 served.messages served.o
 abbrev pub GoesFurther : List RequestMessage → Type 0
 GoesFurther ms = (length ms < max_replies) × (closes ms ≡ false)
 
--- what may be due behind the replies to messages, where more may come: the interim reply; the reply to a fault, behind that; the
--- reply that closes where reading wanted memory, behind the interim reply where that was answered before
-abbrev pub IsTail : Course (List ℕ) → ℕ → List ℕ → List ℕ → Type 0
-IsTail source place rest tail =
-    (tail ≡ pending place rest)
-    ⊎ ((f : WireFault) × HasFault source.new place rest f × (tail ≡ pending place rest ++ fault_bytes f.why))
-    ⊎ (tail ≡ starved_bytes true)
-    ⊎ (tail ≡ pending place rest ++ starved_bytes true)
-
--- a front of what is due was written, of the messages and of what may come behind them
-abbrev pub IsPartOf : {users : Users} {accounts : List Account} {source sink : Course (List ℕ)} {old : ℕ → History} {before now : ℕ}
+-- behind the last message there is no more than came with its end: fewer bytes than one read gives
+abbrev pub IsReadShortly : {users : Users} {accounts : List Account} {source sink : Course (List ℕ)} {old : ℕ → History} {before now : ℕ}
     → Served users accounts source sink old before now → Type 0
-IsPartOf {source = source} served =
-    IsPrefixOf served.wrote (due_of served)
-    ⊎ (GoesFurther served.messages
-    × ((tail : List ℕ) × IsTail source served.place served.rest tail × IsPrefixOf served.wrote (due_of served ++ tail)))
+IsReadShortly served = length served.rest < read_size
 
--- what each end says
-abbrev pub EndsSo : (users : Users) (accounts : List Account) (source sink : Course (List ℕ)) (old : ℕ → History) (before now : ℕ)
+-- the last reply was cut off: all that is due of the messages before was written, then the last one's interim reply, and a front
+-- of its reply
+pub record IsCutInReply {users : Users} {accounts : List Account} {source sink : Course (List ℕ)} {old : ℕ → History} {before now : ℕ}
+    (served : Served users accounts source sink old before now) : Type 0 where
+  pub messages : List RequestMessage
+  pub outcomes : List Outcome
+  pub last : RequestMessage
+  pub outcome : Outcome
+  pub front : List ℕ
+  pub all : served.messages ≡ messages ++ last ∷ []
+  pub each : served.outcomes ≡ outcomes ++ outcome ∷ []
+  pub wrote : served.wrote ≡ due users accounts 0 messages outcomes ++ (interim_of last ++ front)
+  pub part : IsPrefixOf front (answer_bytes (manner_of (length messages) last) (answer_of users (asked_of accounts last) outcome))
+  pub shortly : IsReadShortly served
+
+-- what was written behind all replies to messages, where it was cut off: a front of the interim reply, which was due as soon as
+-- the head was whole; or of the reply to a fault, behind that; or of the fixed reply that closes, behind that where reading
+-- wanted memory after it
+abbrev pub IsCutTail : Course (List ℕ) → ℕ → List ℕ → List ℕ → Type 0
+IsCutTail source place rest wrote =
+    (IsLazy place false rest × IsPrefixOf wrote (pending place rest))
+    ⊎ ((f : WireFault) × HasFault source.new place rest f × (front : List ℕ) × (wrote ≡ pending place rest ++ front) × IsPrefixOf front (fault_bytes f.why))
+    ⊎ ((first front : List ℕ) × IsInterimSoFar place rest first × (wrote ≡ first ++ front) × IsPrefixOf front (starved_bytes true))
+
+-- all that is due of the messages was written, and then something that was cut off
+pub record IsCutBehind {users : Users} {accounts : List Account} {source sink : Course (List ℕ)} {old : ℕ → History} {before now : ℕ}
+    (served : Served users accounts source sink old before now) : Type 0 where
+  pub front : List ℕ
+  pub further : GoesFurther served.messages
+  pub wrote : served.wrote ≡ due_of served ++ front
+  pub tail : IsCutTail source served.place served.rest front
+
+-- the sink stopped in a reply, or behind them
+abbrev pub IsCut : {users : Users} {accounts : List Account} {source sink : Course (List ℕ)} {old : ℕ → History} {before now : ℕ}
+    → Served users accounts source sink old before now → Type 0
+IsCut served = IsCutInReply served ⊎ IsCutBehind served
+
+-- reading wanted memory, and the fixed reply that closes was written
+pub record IsStarved {users : Users} {accounts : List Account} {source sink : Course (List ℕ)} {old : ℕ → History} {before now : ℕ}
+    (served : Served users accounts source sink old before now) : Type 0 where
+  pub first : List ℕ
+  pub further : GoesFurther served.messages
+  pub so_far : IsInterimSoFar served.place served.rest first
+  pub wrote : served.wrote ≡ due_of served ++ (first ++ starved_bytes true)
+
+-- what each end says; the counts of the sink's wants of memory stand apart from those of its faults
+abbrev pub EndsSo : (users : Users) (accounts : List Account) (source sink wants : Course (List ℕ)) (old : ℕ → History) (before now : ℕ)
     → Served users accounts source sink old before now → End → Type 0
-EndsSo users accounts source sink old before now served Closed =
+EndsSo users accounts source sink wants old before now served Closed =
     (served.wrote ≡ due_of served)
-    × ((closes served.messages ≡ true)
+    × (((closes served.messages ≡ true) × IsReadShortly served)
     ⊎ (GoesFurther served.messages × IsAtEnd source.new × (after_last served.place served.rest ≡ more)
     × (finish_of (fed_at served.place served.rest true) ≡ Ok tt)))
-EndsSo users accounts source sink old before now served Limit =
-    (length served.messages ≡ max_replies) × (closes served.messages ≡ false) × (served.wrote ≡ due_of served)
-EndsSo users accounts source sink old before now served ReadFault =
+EndsSo users accounts source sink wants old before now served Limit =
+    (length served.messages ≡ max_replies) × (closes served.messages ≡ false) × (served.wrote ≡ due_of served) × IsReadShortly served
+EndsSo users accounts source sink wants old before now served ReadFault =
     HasFailed source × GoesFurther served.messages × (after_last served.place served.rest ≡ more)
     × (served.wrote ≡ due_of served ++ pending served.place served.rest)
-EndsSo users accounts source sink old before now served WriteFault =
-    HasFailed sink × IsPartOf served
-EndsSo users accounts source sink old before now served NoMemory = IsPartOf served
-EndsSo users accounts source sink old before now served (BadMessage f) =
+EndsSo users accounts source sink wants old before now served WriteFault = HasFailed sink × IsCut served
+EndsSo users accounts source sink wants old before now served NoMemory = IsStarved served ⊎ (HasFailed wants × IsCut served)
+EndsSo users accounts source sink wants old before now served (BadMessage f) =
     GoesFurther served.messages × HasFault source.new served.place served.rest f
     × (served.wrote ≡ due_of served ++ (pending served.place served.rest ++ fault_bytes f.why))
 
 -- a connection over a desk whose users had these histories and then have those
-abbrev pub Serves : Users → List Account → Course (List ℕ) → Course (List ℕ) → (ℕ → History) → ℕ → ℕ → End → Type 0
-Serves users accounts source sink old before now end =
-    (served : Served users accounts source sink old before now) × EndsSo users accounts source sink old before now served end
+abbrev pub Serves : Users → List Account → Course (List ℕ) → Course (List ℕ) → Course (List ℕ) → (ℕ → History) → ℕ → ℕ → End → Type 0
+Serves users accounts source sink wants old before now end =
+    (served : Served users accounts source sink old before now) × EndsSo users accounts source sink wants old before now served end

@@ -1,14 +1,6 @@
-pub mod Accounts
 pub mod Due
 pub mod Ends
-pub mod FaultBytes
-pub mod Fields
 pub mod Inputs
-pub mod Passes
-pub mod ReplyBytes
-pub mod Requests
 pub mod Rests
 pub mod Sending
 pub mod Settling
-pub mod StatusLines
-pub mod Targets

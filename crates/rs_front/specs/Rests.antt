@@ -4,7 +4,7 @@ use Rattle.std.specs.Io.KnownBytes.{IsAtEnd}
 use Rattle.rs_wire.specs.declared.fault.WireFault.{WireFault}
 use Rattle.rs_wire.specs.Laws.{fed_at}
 use Rattle.rs_wire.specs.Readings.{Answer, more, interim, message, fault, next_of, finish_of}
-use Rattle.rs_front.specs.ReplyBytes.{interim_bytes}
+use Rattle.rs_exchange.specs.FixedReplies.{interim_bytes}
 
 -- what the bytes from the place on come to, where the interim reply isn't told again
 abbrev pub after_last : ℕ → List ℕ → Answer

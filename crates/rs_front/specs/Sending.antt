@@ -11,8 +11,11 @@ abbrev pub end_of : SinkFault → End
 end_of fault.Failed = WriteFault
 end_of fault.NoMemory = NoMemory
 
--- the last reply was written, or the sink failed or couldn't grow
-abbrev pub EndsWith : Course (List ℕ) → List ℕ → End → End → Type 0
-EndsWith sink bytes meant said =
-    (IsWritten sink bytes × (said ≡ meant))
-    ⊎ (IsPartWritten sink bytes × (((said ≡ WriteFault) × HasFailed sink) ⊎ (said ≡ NoMemory)))
+-- how a connection ends whose reply couldn't be written: the sink counted that it failed, or that it wanted memory
+abbrev pub IsCutOff : Course (List ℕ) → Course (List ℕ) → End → Type 0
+IsCutOff sink wants said = ((said ≡ WriteFault) × HasFailed sink) ⊎ ((said ≡ NoMemory) × HasFailed wants)
+
+-- the last reply was written, or a front of it
+abbrev pub EndsWith : Course (List ℕ) → Course (List ℕ) → List ℕ → End → End → Type 0
+EndsWith sink wants bytes meant said =
+    (IsWritten sink bytes × (said ≡ meant)) ⊎ (IsPartWritten sink bytes × IsCutOff sink wants said)

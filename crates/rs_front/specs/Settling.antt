@@ -1,30 +1,16 @@
 -- A message decided: what its outcome is.
-use Rattle.std.specs.Prelude.{◌≡◌, ℕ, ⊤, true, List, [], ◌∷◌, ◌++◌, Option, Some, Result, Ok, Err}
+use Rattle.std.specs.Prelude.{◌≡◌, ℕ, List, [], ◌∷◌, ◌++◌, Some, Result, Ok, Err}
 use Rattle.rs_face.specs.Courses.{Course, Writes}
 use Rattle.rs_rules.specs.Histories.{History}
-use Rattle.rs_rules.specs.Requests.{is_within_limit}
 use Rattle.rs_wire.specs.declared.message.RequestMessage.{RequestMessage}
-use Rattle.rs_front.specs.declared.account.Account.{Account}
-use Rattle.rs_front.specs.declared.answer.Answer.{Answer}
-use Rattle.rs_front.specs.declared.asked.Asked.{Asked}
-use Rattle.rs_front.specs.declared.asked.Asked.TheVariants.{Desk, Preflight, Refused}
-use Rattle.rs_front.specs.declared.manner.Manner.{Manner}
-use Rattle.rs_front.specs.declared.reply.Written.{Written}
-use Rattle.rs_front.specs.ReplyBytes.{manner_of}
-use Rattle.rs_front.specs.Requests.{asked_of}
+use Rattle.rs_exchange.specs.declared.account.Account.{Account}
+use Rattle.rs_exchange.specs.declared.answer.Answer.{Answer}
+use Rattle.rs_exchange.specs.declared.asked.Asked.{Asked}
+use Rattle.rs_exchange.specs.declared.manner.Manner.{Manner}
+use Rattle.rs_exchange.specs.declared.reply.Written.{Written}
+use Rattle.rs_exchange.specs.Manners.{manner_of}
+use Rattle.rs_exchange.specs.Requests.{asked_of}
 use Rattle.rs_front.specs.Due.{Users, Outcome, starved, answer_of, answer_bytes, GoesOn, HasFaults}
-
--- the user that is asked is served
-abbrev pub IsServed : (ℕ → Type 0) → Asked → Type 0
-IsServed serves (Desk user r) = serves user
-IsServed serves Preflight = ⊤
-IsServed serves (Refused refusal) = ⊤
-
--- the body that a Put brings is within the limit
-abbrev pub IsShort : Asked → Type 0
-IsShort (Desk user r) = is_within_limit r ≡ true
-IsShort Preflight = ⊤
-IsShort (Refused refusal) = ⊤
 
 -- the outcome has this answer, or memory was wanted
 abbrev pub IsAnswer : {E : Type 0} → Users → Asked → Outcome → Result Answer E → Type 0

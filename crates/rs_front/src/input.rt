@@ -7,8 +7,8 @@ ghost use Rattle.rs_wire.specs.Readings.{Fed, finish_of};
 ghost use Rattle.rs_wire.specs.Laws.{fed_at};
 ghost use Rattle.rs_front.specs.Inputs.{Fills, ending, most_read, ReadsOn, ReadsNext, IsBetween, IsReading};
 
-use crate::fixed::interim_bytes;
-use crate::sending::send;
+use crate::sending::send_fixed;
+use rs_exchange::interim_lines;
 use rs_face::{Sink, SinkFault, Source, SourceFault};
 use rs_wire::{
     NextFault, RequestMessage, RequestReader, Step, WireFault, one_division, taken_requests,
@@ -59,17 +59,19 @@ pub(crate) fn next_message<S: Source, W: Sink>(
     ensures reads { (place : ℕ) (bytes : List ℕ) → Stands reader.old (fed_at place bytes false)
         → ReadsNext place bytes reader.new
         (course S.left S.faults source.old source.new)
-        (course W.written W.faults sink.old sink.new) result }
+        (course W.written W.faults sink.old sink.new)
+        (course W.written W.wants sink.old sink.new) result }
     ensures count { fed_count reader.new ≤ fed_count reader.old + (most_read + most_read) }
     ensures source_later { S.faults source.old ≤ S.faults source.new }
     ensures sink_later { W.faults sink.old ≤ W.faults sink.new }
+    ensures wants_later { W.wants sink.old ≤ W.wants sink.new }
 {
     unfinished_requests();
     taken_requests();
     if let Some(next) = read_on(reader, source) {
         return next;
     }
-    if let Err(fault) = send(sink, interim_bytes(), &[]) {
+    if let Err(fault) = send_fixed(sink, 100, interim_lines()) {
         return Next::NotWritten(fault);
     }
     // The interim reply is due once.

@@ -1,32 +1,16 @@
-//! Serving one connection: what a message asks, and the bytes of its reply.
+//! Serving one connection: messages in, replies out, over any desk.
 #![tactic(auto)]
 
-mod account;
-mod answer;
-mod asked;
-mod fields;
-mod fixed;
 mod input;
-mod lines;
-mod manner;
 mod output;
-mod own_lines;
-mod pass;
-mod reply;
 mod sending;
 mod serve;
 mod settling;
-mod status_lines;
-mod target;
-mod verb;
 
-pub use account::{Account, Accounts, Config};
-pub use answer::Answer;
-pub use asked::{Asked, Refusal, read_request};
-pub use fixed::{fault_line, fault_rest, interim_bytes, starved_bytes};
-pub use manner::{Manner, manner_of};
 pub use output::one_output;
-pub use reply::{HEAD_ROOM, Written, head_room, write_answer};
+pub use rs_exchange::{
+    Account, Accounts, Answer, Asked, Config, HEAD_ROOM, MAX_REPLIES, Manner, Methods, Refusal,
+    RequestLine, Target, Verb, Written, closing_lines, fault_status, head_room, interim_lines,
+    manner_of, path_part, read_line, read_request, starved_lines, target_of, verb_of, write_answer,
+};
 pub use serve::{End, serve_stream};
-pub use target::{Target, path_part, target_of};
-pub use verb::{Verb, verb_of};

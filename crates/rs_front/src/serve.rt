@@ -5,21 +5,20 @@ ghost use Rattle.rs_face.specs.Courses.{course};
 ghost use Rattle.rs_rules.specs.Desks.{ForHistories};
 ghost use Rattle.rs_wire.specs.Readers.{Stands};
 ghost use Rattle.rs_wire.specs.Readings.{unfed};
-ghost use Rattle.rs_front.specs.Accounts.{IsAccount};
+ghost use Rattle.rs_exchange.specs.Accounts.{IsAccount};
 ghost use Rattle.rs_front.specs.Due.{users_of_desk};
 ghost use Rattle.rs_front.specs.Ends.{Serves};
-ghost use Rattle.rs_front.specs.FaultBytes.{fault_bytes};
+ghost use Rattle.rs_wire.specs.Writing.{start_text, phrase_of};
+ghost use Rattle.rs_exchange.specs.FixedReplies.{fault_bytes};
 ghost use Rattle.rs_front.specs.Sending.{EndsWith, end_of};
 
-use crate::account::Config;
-use crate::fixed::{fault_line, fault_rest, starved_bytes};
 use crate::input::{Next, next_message};
-use crate::manner::MAX_REPLIES;
-use crate::sending::send;
+use crate::sending::send_fixed;
 use crate::settling::reply_to;
+use rs_exchange::{Config, MAX_REPLIES, closing_lines, fault_status, starved_lines};
 use rs_face::{Sink, SinkFault, Source};
 use rs_rules::Desk;
-use rs_wire::{RequestReader, WireFault, one_division, unfinished_requests};
+use rs_wire::{RequestReader, WireFault, one_division, taken_requests, unfinished_requests};
 use std::alloc::Global;
 
 /// How a connection ended.
@@ -48,6 +47,10 @@ pub enum End {
 /// the reply to bytes that are no request is due, or the 503 that closes where reading wants memory. After 1,000 replies, and
 /// after one to a message that asks to close (RFC 9112, section 9.6), the input isn't looked at any more.
 ///
+/// All of it comes in time. No message is decided before what is due of those before it was written, and none once the sink
+/// failed or wanted memory. The interim reply is written before the body is waited for, and nothing is read behind a message
+/// beyond what the read that brought its end gave.
+///
 /// The desk serves the user of each account, whose number is its place in the list. It goes on to do so, under the same quotas
 /// and numbers and as alone as before (`Desk::keeps`), so that it can serve the next connection. Over a desk that waits for
 /// nobody, and objects that do, the call returns.
@@ -61,7 +64,8 @@ pub fn serve_stream<S: Source, W: Sink, D: Desk>(
     requires served { (user : ℕ) → IsAccount config.now.accounts user → D.serves desk.old user }
     ensures serves { ForHistories (IsAccount config.now.accounts) (D.stands desk.old) (D.stands desk.new) (λ old now.
         Serves (users_of_desk D.quota D.me D.alone desk.old now) config.now.accounts
-        (course S.left S.faults source.old source.new) (course W.written W.faults sink.old sink.new)
+        (course S.left S.faults source.old source.new)
+        (course W.written W.faults sink.old sink.new) (course W.written W.wants sink.old sink.new)
         old (D.faults desk.old) (D.faults desk.new) result) }
     ensures is_later { D.is_later desk.old desk.new }
 {
@@ -82,19 +86,21 @@ fn serve_messages<S: Source, W: Sink, D: Desk>(
     requires fresh { Stands reader.old unfed }
     ensures serves { ForHistories (IsAccount config.now.accounts) (D.stands desk.old) (D.stands desk.new) (λ old now.
         Serves (users_of_desk D.quota D.me D.alone desk.old now) config.now.accounts
-        (course S.left S.faults source.old source.new) (course W.written W.faults sink.old sink.new)
+        (course S.left S.faults source.old source.new)
+        (course W.written W.faults sink.old sink.new) (course W.written W.wants sink.old sink.new)
         old (D.faults desk.old) (D.faults desk.new) result) }
     ensures is_later { D.is_later desk.old desk.new }
 {
     one_division();
     unfinished_requests();
+    taken_requests();
     'serving: for count in 0..MAX_REPLIES {
         let message = match next_message(reader, source, sink) {
             Next::Message(message) => message,
             Next::End => return End::Closed,
             Next::Bad(fault) => return end_at_fault(sink, fault),
             Next::NotRead => return End::ReadFault,
-            Next::NoMemory => return end_with(sink, starved_bytes(true), &[], End::NoMemory),
+            Next::NoMemory => return end_with(sink, 503, starved_lines(true), End::NoMemory),
             Next::NotWritten(fault) => return end_of(fault),
         };
         let close = message.close;
@@ -108,25 +114,24 @@ fn serve_messages<S: Source, W: Sink, D: Desk>(
     End::Limit
 }
 
-// Writes the reply to bytes that are no request.
+// Writes the reply to bytes that are no request. There is none where the input was cut short.
 fn end_at_fault<W: Sink>(sink: &mut W, fault: WireFault) -> End
-    ensures ends { EndsWith (course W.written W.faults sink.old sink.new) (fault_bytes fault.why) (End.BadMessage fault) result }
-    ensures later { W.faults sink.old ≤ W.faults sink.new }
+    ensures ends { EndsWith (course W.written W.faults sink.old sink.new) (course W.written W.wants sink.old sink.new)
+        (fault_bytes fault.why) (End.BadMessage fault) result }
 {
-    end_with(
-        sink,
-        fault_line(fault.why),
-        fault_rest(fault.why),
-        End::BadMessage { fault },
-    )
+    let end = End::BadMessage { fault };
+    match fault_status(fault.why) {
+        Some(status) => end_with(sink, status, closing_lines(status), end),
+        None => end,
+    }
 }
 
 // Writes the last reply; the end is that one, or says that the reply couldn't be written.
-fn end_with<W: Sink>(sink: &mut W, head: &[u8], rest: &[u8], end: End) -> End
-    ensures ends { EndsWith (course W.written W.faults sink.old sink.new) (head.now ++ rest.now) end result }
-    ensures later { W.faults sink.old ≤ W.faults sink.new }
+fn end_with<W: Sink>(sink: &mut W, status: u16, lines: &[u8], end: End) -> End
+    ensures ends { EndsWith (course W.written W.faults sink.old sink.new) (course W.written W.wants sink.old sink.new)
+        (start_text status ++ (phrase_of status ++ lines.now)) end result }
 {
-    match send(sink, head, rest) {
+    match send_fixed(sink, status, lines) {
         Ok(()) => end,
         Err(fault) => end_of(fault),
     }

@@ -20,6 +20,7 @@ mod RestLemmas
 mod RunLemmas
 mod SpellingLemmas
 mod StandsLemmas
+mod StatusLemmas
 mod StreamLemmas
 mod TakenLemmas
 mod TextLemmas

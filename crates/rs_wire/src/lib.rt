@@ -16,6 +16,7 @@ mod name;
 mod reader;
 mod replied;
 mod reply;
+mod reply_head;
 mod reply_spelling;
 mod search;
 mod spelling;
@@ -36,6 +37,9 @@ pub use name::same_name;
 pub use reader::RequestReader;
 pub use replied::written_replies;
 pub use reply::read_reply;
+pub use reply_head::{
+    FieldValue, phrase_of, put_empty_line, put_field_line, put_status_line, status_start,
+};
 pub use reply_spelling::spelled_replies;
 pub use spelling::spelled_requests;
 pub use taken::taken_requests;

@@ -1,10 +1,11 @@
 //! Messages, written (RFC 9112, sections 3 to 6).
 
 ghost use Rattle.std.specs.Prelude.{◌≡◌, ◌++◌, IfOk, OnOk, OnErr};
-ghost use Rattle.rs_wire.specs.Writing.{field_text, fields_text, request_head_text, request_text, IsWritable, reply_head_text, reply_text, status_digits, phrase_of, IsWritableReply};
+ghost use Rattle.rs_wire.specs.Writing.{field_text, fields_text, request_head_text, request_text, IsWritable, reply_head_text, reply_text, IsWritableReply};
 
 use crate::field::Field;
 use crate::message::{ReplyMessage, RequestMessage};
+use crate::reply_head::{FieldValue, put_field_line, put_status_line};
 use rs_path::NoMemory;
 use std::alloc::Global;
 
@@ -67,57 +68,14 @@ fn request_head(alloc: Global, it: &RequestMessage) -> Result<Vec<u8>, NoMemory>
 }
 
 /// The head of a reply.
+#[tactic(auto, using(crate::proofs::StatusLemmas::reply_head_lines))]
 fn reply_head(alloc: Global, it: &ReplyMessage) -> Result<Vec<u8>, NoMemory>
     ensures { IfOk result (λ head. head.items ≡ reply_head_text it.now) }
 {
     let mut head = Vec::new(alloc);
-    put(b"HTTP/1.1 ", &mut head)?;
-    put(&status_digits(it.status), &mut head)?;
-    put(b" ", &mut head)?;
-    put(phrase_of(it.status), &mut head)?;
-    put(b"\r\n", &mut head)?;
+    put_status_line(&mut head, it.status)?;
     put_fields(it.fields.as_slice(), &mut head)?;
     Ok(head)
-}
-
-/// The three digits of a status.
-fn status_digits(status: u16) -> [u8; 3]
-    ensures { result ≡ status_digits status }
-{
-    [
-        b'0' + (status / 100 % 10) as u8,
-        b'0' + (status / 10 % 10) as u8,
-        b'0' + (status % 10) as u8,
-    ]
-}
-
-/// The phrase of a status (RFC 9110, section 15, and RFC 6585).
-fn phrase_of(status: u16) -> &'static [u8]
-    ensures { result.now ≡ phrase_of status }
-{
-    match status {
-        100 => b"Continue",
-        200 => b"OK",
-        201 => b"Created",
-        204 => b"No Content",
-        302 => b"Found",
-        304 => b"Not Modified",
-        400 => b"Bad Request",
-        401 => b"Unauthorized",
-        403 => b"Forbidden",
-        404 => b"Not Found",
-        405 => b"Method Not Allowed",
-        409 => b"Conflict",
-        412 => b"Precondition Failed",
-        413 => b"Content Too Large",
-        414 => b"URI Too Long",
-        431 => b"Request Header Fields Too Large",
-        500 => b"Internal Server Error",
-        501 => b"Not Implemented",
-        503 => b"Service Unavailable",
-        507 => b"Insufficient Storage",
-        _ => b"",
-    }
 }
 
 /// Puts bytes at the end.
@@ -140,12 +98,9 @@ fn put_fields(fields: &[Field], out: &mut Vec<u8>) -> Result<(), NoMemory>
 }
 
 /// Puts a field line at the end.
+#[tactic(auto, unfolding(crate::specs::FieldValues::line_text))]
 fn put_field(field: &Field, out: &mut Vec<u8>) -> Result<(), NoMemory>
     ensures { OnOk result (out.new.items ≡ out.old.items ++ field_text field.now) }
 {
-    put(field.name.as_slice(), out)?;
-    put(b": ", out)?;
-    put(field.value.as_slice(), out)?;
-    put(b"\r\n", out)?;
-    Ok(())
+    put_field_line(out, field.name.as_slice(), FieldValue::Text(field.value.as_slice()))
 }

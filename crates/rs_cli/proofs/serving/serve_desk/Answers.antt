@@ -5,5 +5,5 @@ pub returns-clause-serves : goal.returns-clause-serves
 returns-clause-serves g c user h accounts ready =
     let all = c.args.config.now.accounts in
     let served = c.serve_stream.ensures.serves (λ number. h) (λ number within. (only_user user all number accounts within, ready.stands, ready.spells)) in
-    desk_pipes user h c.args.desk.now.state.now.quota all _ _ _ c.serve_stream.result c.from.result served.0 accounts served.2
+    desk_pipes user h c.args.desk.now.state.now.quota all _ _ _ _ c.serve_stream.result c.from.result served.0 accounts served.2
     (served.1 0 (some_user user all accounts)).2 c.from.ensures

@@ -1,0 +1,3 @@
+mod AskedLemmas
+mod PartLemmas
+mod RoomLemmas

@@ -1,0 +1,13 @@
+pub mod Accounts
+pub mod Asking
+pub mod Conditions
+pub mod ContentTypes
+pub mod Fields
+pub mod FixedReplies
+pub mod Lines
+pub mod Manners
+pub mod Outlines
+pub mod Passes
+pub mod Replies
+pub mod Requests
+pub mod Targets
