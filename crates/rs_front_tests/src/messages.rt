@@ -1,13 +1,13 @@
 //! What messages ask, and the bytes of replies, as tables.
 
 use rs_front::{
-    Account, Accounts, Answer, Asked, Manner, Refusal, Target, fault_line, fault_rest, head_room,
-    interim_bytes, manner_of, read_request, starved_bytes, write_answer,
+    Account, Accounts, Answer, Asked, Manner, Methods, Refusal, closing_lines, fault_status,
+    head_room, interim_lines, manner_of, read_line, read_request, starved_lines, write_answer,
 };
 use rs_path::{Bytes, Entry, Items, Kind, Name, Path, Tag};
 use rs_rules::{Call, Cond, Pass, Reply, Request};
 use rs_scope::Token;
-use rs_wire::{Field, Fields, RequestMessage, WireWhy};
+use rs_wire::{Field, Fields, RequestMessage, WireWhy, phrase_of, status_start};
 use std::alloc::Global;
 use std::process::Abort;
 use std::test::Fail;
@@ -71,12 +71,27 @@ enum Wanted {
     Refused(Refusal),
 }
 
-fn wanted_of(asked: &Asked) -> Wanted {
+/// What was asked, and None where the answer is a desk's.
+fn wanted_of(asked: &Asked) -> Option<Wanted> {
     match asked {
-        Asked::Desk { user, .. } => Wanted::Desk(*user),
-        Asked::Preflight => Wanted::Preflight,
-        Asked::Refused(refusal) => Wanted::Refused(*refusal),
+        Asked::Desk { user, .. } => Some(Wanted::Desk(*user)),
+        Asked::Now(Answer::Preflight) => Some(Wanted::Preflight),
+        Asked::Now(Answer::Refused(refusal)) => Some(Wanted::Refused(*refusal)),
+        Asked::Now(Answer::Decided(_)) => None,
     }
+}
+
+/// What a message asks of a server of these users.
+fn asked(alloc: Global, accounts: &Accounts, message: RequestMessage) -> Result<Asked, Fail> {
+    let RequestMessage {
+        method,
+        target,
+        fields,
+        body,
+        ..
+    } = message;
+    let line = read_line(accounts, method.as_slice(), target.as_slice());
+    Ok(read_request(alloc, line, fields.as_slice(), body)?)
 }
 
 /// Each row: the method, the target, fields, and what the message asks.
@@ -87,14 +102,14 @@ fn asks(
 ) -> Result<(), Fail> {
     let accounts = accounts(alloc)?;
     for (method, target, lines, wanted) in rows {
-        let asked = read_request(
+        let asked = asked(
             alloc,
             &accounts,
             message(alloc, method, target, lines, false)?,
         )?;
         assert_eq!(rt;
             (*target, *method, wanted_of(&asked)),
-            (*target, *method, *wanted)
+            (*target, *method, Some(*wanted))
         );
     }
     Ok(())
@@ -108,8 +123,10 @@ const BAD_CONDITION: Wanted = Wanted::Refused(Refusal::BadCondition);
 
 const BAD_KIND: Wanted = Wanted::Refused(Refusal::BadKind);
 
+const PART_ONLY: Wanted = Wanted::Refused(Refusal::PartOnly);
+
 const NOT_ALLOWED: Wanted = Wanted::Refused(Refusal::NotAllowed {
-    target: Target::Storage { user: 0 },
+    methods: Methods::Storage,
 });
 
 #[test]
@@ -223,6 +240,32 @@ fn refusals_in_their_order(rt: HostRuntime) -> Result<(), Fail> {
                 "Content-Type: a\nContent-Type: b",
                 Wanted::Desk(0),
             ),
+            // the content type, then whether the whole is sent
+            (
+                "PUT",
+                "/storage/alice/a",
+                "Content-Range: bytes 0-4/5\nContent-Type: a\tb",
+                BAD_KIND,
+            ),
+            (
+                "PUT",
+                "/storage/alice/a",
+                "content-range: bytes 0-4/5",
+                PART_ONLY,
+            ),
+            ("PUT", "/storage/alice/a", "Content-Range: ", PART_ONLY),
+            (
+                "PUT",
+                "/storage/alice/a",
+                "Content-Range: a\nContent-Range: b\nContent-Type: a",
+                PART_ONLY,
+            ),
+            (
+                "DELETE",
+                "/storage/alice/a",
+                "Content-Range: bytes 0-4/5",
+                Wanted::Desk(0),
+            ),
         ],
     )
 }
@@ -245,7 +288,7 @@ fn pass_word(pass: &Pass) -> &'static str {
 /// The call of a PUT with these fields.
 fn call_of(alloc: Global, lines: &str) -> Result<Call, Fail> {
     let message = message(alloc, "PUT", "/storage/alice/notes/x", lines, false)?;
-    match read_request(alloc, &accounts(alloc)?, message)? {
+    match asked(alloc, &accounts(alloc)?, message)? {
         Asked::Desk {
             request: Request::Store(call),
             ..
@@ -329,13 +372,14 @@ fn manners(rt: HostRuntime) -> Result<(), Fail> {
         ("GET", "/oauth", false, 0, true, false, false),
         ("GET", "/?/oauth/alice", false, 0, true, false, false),
     ] {
-        let message = message(rt.alloc(), method, target, "", close)?;
+        let accounts = accounts(rt.alloc())?;
+        let line = read_line(&accounts, method.as_bytes(), target.as_bytes());
         let wanted = Manner {
             shared,
             bodiless,
             closing,
         };
-        assert_eq!(&rt; (target, manner_of(&message, count)), (target, wanted));
+        assert_eq!(&rt; (target, manner_of(&line, close, count)), (target, wanted));
     }
     Ok(())
 }
@@ -530,7 +574,7 @@ fn replies_that_refuse(rt: HostRuntime) -> Result<(), Fail> {
         alloc,
         OPEN,
         Answer::Refused(Refusal::NotAllowed {
-            target: Target::Storage { user: 0 },
+            methods: Methods::Storage,
         }),
         "HTTP/1.1 405 Method Not Allowed\nAccess-Control-Allow-Origin: *\nAccess-Control-Expose-Headers: ETag, Content-Type, Content-Length\nAllow: GET, HEAD, PUT, DELETE, OPTIONS\nContent-Length: 0\n\n\n",
     )?;
@@ -545,6 +589,7 @@ fn replies_that_refuse(rt: HostRuntime) -> Result<(), Fail> {
         (Refusal::BadPath, "400 Bad Request"),
         (Refusal::BadCondition, "400 Bad Request"),
         (Refusal::BadKind, "400 Bad Request"),
+        (Refusal::PartOnly, "400 Bad Request"),
     ] {
         let wanted = format!(in alloc; "HTTP/1.1 {line}\nContent-Length: 0\n\n\n")?;
         reply_is(
@@ -572,40 +617,53 @@ fn replies_that_refuse(rt: HostRuntime) -> Result<(), Fail> {
     Ok(())
 }
 
+/// A fixed reply, by its status and what follows the phrase of that.
+fn fixed(alloc: Global, status: u16, lines: &[u8]) -> Result<Vec<u8>, Fail> {
+    let mut text = status_start(status).to_vec(alloc)?;
+    text.extend_from_slice(phrase_of(status))?;
+    text.extend_from_slice(lines)?;
+    Ok(text)
+}
+
 #[test]
 fn fixed_replies(rt: HostRuntime) -> Result<(), Fail> {
+    let alloc = rt.alloc();
     assert_eq!(&rt;
-        starved_bytes(false),
+        fixed(alloc, 503, starved_lines(false))?.as_slice(),
         b"HTTP/1.1 503 Service Unavailable\r\nAccess-Control-Allow-Origin: *\r\nContent-Length: 0\r\n\r\n".as_slice()
     );
     assert_eq!(&rt;
-        starved_bytes(true),
+        fixed(alloc, 503, starved_lines(true))?.as_slice(),
         b"HTTP/1.1 503 Service Unavailable\r\nAccess-Control-Allow-Origin: *\r\nContent-Length: 0\r\nConnection: close\r\n\r\n".as_slice()
     );
     assert_eq!(&rt;
-        interim_bytes(),
+        fixed(alloc, 100, interim_lines())?.as_slice(),
         b"HTTP/1.1 100 Continue\r\n\r\n".as_slice()
     );
     for (why, line) in [
-        (WireWhy::TargetLong, "HTTP/1.1 414 URI Too Long\r\n"),
+        (WireWhy::TargetLong, "HTTP/1.1 414 URI Too Long"),
         (
             WireWhy::HeadLong,
-            "HTTP/1.1 431 Request Header Fields Too Large\r\n",
+            "HTTP/1.1 431 Request Header Fields Too Large",
         ),
-        (WireWhy::BadHead, "HTTP/1.1 400 Bad Request\r\n"),
-        (WireWhy::Coding, "HTTP/1.1 501 Not Implemented\r\n"),
-        (WireWhy::TwoLengths, "HTTP/1.1 400 Bad Request\r\n"),
-        (WireWhy::BadLength, "HTTP/1.1 400 Bad Request\r\n"),
-        (WireWhy::BodyLong, "HTTP/1.1 413 Content Too Large\r\n"),
-        (WireWhy::BadChunk, "HTTP/1.1 400 Bad Request\r\n"),
+        (WireWhy::BadHead, "HTTP/1.1 400 Bad Request"),
+        (WireWhy::Coding, "HTTP/1.1 501 Not Implemented"),
+        (WireWhy::TwoLengths, "HTTP/1.1 400 Bad Request"),
+        (WireWhy::BadLength, "HTTP/1.1 400 Bad Request"),
+        (WireWhy::BodyLong, "HTTP/1.1 413 Content Too Large"),
+        (WireWhy::BadChunk, "HTTP/1.1 400 Bad Request"),
     ] {
-        assert_eq!(&rt; fault_line(why), line.as_bytes());
+        let Some(status) = fault_status(why) else {
+            return Err("no status")?;
+        };
+        let wanted = format!(in alloc;
+            "{line}\r\nAccess-Control-Allow-Origin: *\r\nAccess-Control-Expose-Headers: ETag, Content-Type, Content-Length\r\nContent-Length: 0\r\nConnection: close\r\n\r\n"
+        )?;
         assert_eq!(&rt;
-            fault_rest(why),
-            b"Access-Control-Allow-Origin: *\r\nAccess-Control-Expose-Headers: ETag, Content-Type, Content-Length\r\nContent-Length: 0\r\nConnection: close\r\n\r\n".as_slice()
+            fixed(alloc, status, closing_lines(status))?.as_slice(),
+            wanted.as_bytes()
         );
     }
-    assert_eq!(&rt; fault_line(WireWhy::Truncated).len(), 0);
-    assert_eq!(&rt; fault_rest(WireWhy::Truncated).len(), 0);
+    assert_eq!(&rt; fault_status(WireWhy::Truncated), None);
     Ok(())
 }
