@@ -14,9 +14,9 @@ use Rattle.rs_rules.specs.declared.cond.Cond.{Cond}
 use Rattle.rs_rules.specs.declared.pass.Pass.{Pass}
 use Rattle.rs_rules.specs.declared.request.Request.TheVariants.{Store}
 use Rattle.rs_rules.specs.Requests.{is_short_for}
-use Rattle.rs_wire.specs.declared.field.Field.{Field}
+use Rattle.rs_request.specs.declared.field.Field.{Field}
 use Rattle.rs_path.specs.Limits.{max_body}
-use Rattle.rs_wire.specs.declared.message.RequestMessage.{RequestMessage}
+use Rattle.rs_request.specs.declared.message.RequestMessage.{RequestMessage}
 use Rattle.rs_front.specs.declared.account.Account.{Account}
 use Rattle.rs_front.specs.declared.asked.Asked.{Asked}
 use Rattle.rs_front.specs.declared.asked.Asked.TheVariants.{Desk, Preflight, Refused}

@@ -18,7 +18,7 @@ use Rattle.rs_front.specs.declared.asked.Asked.{Asked}
 use Rattle.rs_front.specs.declared.asked.Asked.TheVariants.{Desk, Preflight, Refused}
 use Rattle.rs_front.specs.declared.manner.Manner.{Manner}
 use Rattle.rs_front.specs.declared.reply.Written.{Written}
-use Rattle.rs_wire.specs.declared.message.RequestMessage.{RequestMessage}
+use Rattle.rs_request.specs.declared.message.RequestMessage.{RequestMessage}
 use Rattle.rs_front.specs.declared.account.Account.{Account}
 use Rattle.rs_front.specs.ReplyBytes.{has_content, reply_head, sent_body, manner_of, starved_bytes}
 use Rattle.rs_front.specs.Requests.{asked_of}

@@ -1,7 +1,7 @@
 -- The replies to bytes that are no request (RFC 9112, section 4; RFC 9110, section 15; RFC 6585, section 5).
 use Rattle.std.specs.Prelude.{ℕ, List, [], ◌++◌, codes}
-use Rattle.rs_wire.specs.declared.fault.WireWhy.{WireWhy}
-use Rattle.rs_wire.specs.declared.fault.WireWhy.TheVariants.{BadHead, HeadLong, TargetLong, BodyLong, BadLength, TwoLengths, BadChunk, Coding, Truncated}
+use Rattle.rs_request.specs.declared.fault.WireWhy.{WireWhy}
+use Rattle.rs_request.specs.declared.fault.WireWhy.TheVariants.{BadHead, HeadLong, TargetLong, BodyLong, BadLength, TwoLengths, BadChunk, Coding, Truncated}
 
 -- the status line; there is no reply where the input was cut short
 unfoldable pub fault_line : WireWhy → List ℕ

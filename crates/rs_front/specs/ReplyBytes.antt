@@ -4,7 +4,7 @@ use Rattle.rs_scope.specs.declared.method.Method.{Method}
 use Rattle.rs_scope.specs.declared.method.Method.TheVariants.{Get, Head, Put, Delete}
 use Rattle.rs_rules.specs.declared.reply.Reply.{Reply}
 use Rattle.rs_rules.specs.declared.reply.Reply.TheVariants.{Found, Folder, Stored, Removed, Same, NoToken, BadToken, Forbidden}
-use Rattle.rs_wire.specs.declared.message.RequestMessage.{RequestMessage}
+use Rattle.rs_request.specs.declared.message.RequestMessage.{RequestMessage}
 use Rattle.rs_folder.specs.Descriptions.{folder_text}
 use Rattle.rs_front.specs.declared.answer.Answer.{Answer}
 use Rattle.rs_front.specs.declared.answer.Answer.TheVariants.{Decided, Preflight, Refused}

@@ -10,7 +10,7 @@ use Rattle.rs_rules.specs.declared.cond.Cond.{Cond}
 use Rattle.rs_rules.specs.declared.cond.Cond.TheVariants.{Missing}
 use Rattle.rs_rules.specs.declared.request.Request.TheVariants.{Store}
 use Rattle.rs_rules.specs.CondReadings.{cond_reading}
-use Rattle.rs_wire.specs.declared.message.RequestMessage.{RequestMessage}
+use Rattle.rs_request.specs.declared.message.RequestMessage.{RequestMessage}
 use Rattle.rs_front.specs.declared.account.Account.{Account}
 use Rattle.rs_front.specs.declared.asked.Asked.{Asked}
 use Rattle.rs_front.specs.declared.asked.Asked.TheVariants.{Desk, Preflight, Refused}

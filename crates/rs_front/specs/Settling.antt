@@ -3,7 +3,7 @@ use Rattle.std.specs.Prelude.{◌≡◌, ℕ, ⊤, true, List, [], ◌∷◌, �
 use Rattle.rs_face.specs.Courses.{Course, Writes}
 use Rattle.rs_rules.specs.Histories.{History}
 use Rattle.rs_rules.specs.Requests.{is_within_limit}
-use Rattle.rs_wire.specs.declared.message.RequestMessage.{RequestMessage}
+use Rattle.rs_request.specs.declared.message.RequestMessage.{RequestMessage}
 use Rattle.rs_front.specs.declared.account.Account.{Account}
 use Rattle.rs_front.specs.declared.answer.Answer.{Answer}
 use Rattle.rs_front.specs.declared.asked.Asked.{Asked}

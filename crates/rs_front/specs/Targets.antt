@@ -4,7 +4,7 @@ use Rattle.std.specs.Option.{option_map_or}
 use Rattle.std.specs.Str.{bytes_eq}
 use Rattle.rs_scope.specs.declared.method.Method.TheVariants.{Get, Head, Put, Delete}
 use Rattle.rs_scope.specs.Reach.{is_reading}
-use Rattle.rs_wire.specs.Names.{same_name}
+use Rattle.rs_request.specs.Names.{same_name}
 use Rattle.rs_front.specs.declared.account.Account.{Account}
 use Rattle.rs_front.specs.declared.target.Target.{Target}
 use Rattle.rs_front.specs.declared.target.Target.TheVariants.{Server, Storage, Discovery, Grant, Nothing}

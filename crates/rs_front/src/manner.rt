@@ -1,7 +1,7 @@
 //! How a reply is written.
 
 ghost use Rattle.std.specs.Prelude.{◌≡◌, ◌||◌, ◌+◌, ◌<◌, ◌^◌, length};
-ghost use Rattle.rs_wire.specs.declared.message.RequestMessage.{RequestMessage};
+ghost use Rattle.rs_request.specs.declared.message.RequestMessage.{RequestMessage};
 ghost use Rattle.rs_front.specs.Targets.{is_shared, path_part};
 ghost use Rattle.rs_front.specs.ReplyBytes.{manner_of, is_head};
 

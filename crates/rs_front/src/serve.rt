@@ -3,8 +3,8 @@
 ghost use Rattle.std.specs.Prelude.{◌≡◌, ◌≤◌, ◌++◌, ℕ};
 ghost use Rattle.rs_face.specs.Courses.{course};
 ghost use Rattle.rs_rules.specs.Desks.{ForHistories};
-ghost use Rattle.rs_wire.specs.Readers.{Stands};
-ghost use Rattle.rs_wire.specs.Readings.{unfed};
+ghost use Rattle.rs_request.specs.Readers.{Stands};
+ghost use Rattle.rs_request.specs.Readings.{unfed};
 ghost use Rattle.rs_front.specs.Accounts.{IsAccount};
 ghost use Rattle.rs_front.specs.Due.{users_of_desk};
 ghost use Rattle.rs_front.specs.Ends.{Serves};

@@ -1,0 +1,6 @@
+mod RepliedLemmas
+mod ReplyLemmas
+mod ReplySpellingLemmas
+mod ReplySteps
+mod ReplyTakenLemmas
+mod RunLemmas
