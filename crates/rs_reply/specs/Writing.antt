@@ -37,6 +37,14 @@ phrase_of status =
 abbrev pub status_digits : ℕ → List ℕ
 status_digits status = (48 + status / 100 % 10) ∷ (48 + status / 10 % 10) ∷ (48 + status % 10) ∷ []
 
+-- "HTTP/1.1" SP status SP
+abbrev pub start_text : ℕ → List ℕ
+start_text status = codes "HTTP/1.1 " ++ (status_digits status ++ (32 ∷ []))
+
+-- the line with which a reply begins: its status, and the phrase of that
+unfoldable pub status_line : ℕ → List ℕ
+status_line status = start_text status ++ (phrase_of status ++ (13 ∷ 10 ∷ []))
+
 -- "HTTP/1.1" SP status SP phrase CR LF fields
 abbrev pub reply_head_text : ReplyMessage → List ℕ
 reply_head_text m = codes "HTTP/1.1 "

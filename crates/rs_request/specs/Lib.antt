@@ -2,6 +2,7 @@ pub mod Bodies
 pub mod BodyReaders
 pub mod ChunkTexts
 pub mod Division
+pub mod FieldValues
 pub mod Framing
 pub mod Items
 pub mod Laws

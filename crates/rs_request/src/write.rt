@@ -4,6 +4,7 @@ ghost use Rattle.std.specs.Prelude.{◌≡◌, ◌++◌, IfOk, OnOk, OnErr};
 ghost use Rattle.rs_request.specs.Writing.{field_text, fields_text, request_head_text, request_text, IsWritable};
 
 use crate::field::Field;
+use crate::field_line::{FieldValue, put_field_line};
 use crate::message::RequestMessage;
 use rs_path::NoMemory;
 use std::alloc::Global;
@@ -49,8 +50,8 @@ fn request_head(alloc: Global, it: &RequestMessage) -> Result<Vec<u8>, NoMemory>
     Ok(head)
 }
 
-/// Puts bytes at the end of `out`.
-pub fn put(bytes: &[u8], out: &mut Vec<u8>) -> Result<(), NoMemory>
+/// Puts bytes at the end.
+fn put(bytes: &[u8], out: &mut Vec<u8>) -> Result<(), NoMemory>
     ensures { OnOk result (out.new.items ≡ out.old.items ++ bytes.now) }
 {
     out.extend_from_slice(bytes)?;
@@ -70,12 +71,13 @@ pub fn put_fields(fields: &[Field], out: &mut Vec<u8>) -> Result<(), NoMemory>
 }
 
 /// Puts a field line at the end.
+#[tactic(auto, unfolding(crate::specs::FieldValues::line_text))]
 fn put_field(field: &Field, out: &mut Vec<u8>) -> Result<(), NoMemory>
     ensures { OnOk result (out.new.items ≡ out.old.items ++ field_text field.now) }
 {
-    put(field.name.as_slice(), out)?;
-    put(b": ", out)?;
-    put(field.value.as_slice(), out)?;
-    put(b"\r\n", out)?;
-    Ok(())
+    put_field_line(
+        out,
+        field.name.as_slice(),
+        FieldValue::Text(field.value.as_slice()),
+    )
 }
