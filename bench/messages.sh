@@ -9,11 +9,13 @@ trap 'rm -rf "$room"' EXIT
 
 mkdir -p "$room/crates"
 cp "$root/HANDLES" "$room/"
-for crate in rs_path rs_wire; do
+for crate in rs_path rs_request rs_reply rs_wire; do
     mkdir "$room/crates/$crate"
-    cp -r "$root/crates/$crate/src" "$root/crates/$crate/specs" "$root/crates/$crate/proofs" "$room/crates/$crate/"
+    for part in src specs proofs; do
+        if [ -d "$root/crates/$crate/$part" ]; then cp -r "$root/crates/$crate/$part" "$room/crates/$crate/"; fi
+    done
 done
-{ grep -E '^rs_(path|wire)\b' "$root/crates.txt"; echo 'wire_bench: rs_path rs_wire'; } >"$room/crates.txt"
+{ grep -E '^rs_(path|request|reply|wire)\b' "$root/crates.txt"; echo 'wire_bench: rs_path rs_request rs_wire'; } >"$room/crates.txt"
 git -C "$room" init -q
 bench="$room/crates/wire_bench"
 mkdir -p "$bench/src" "$bench/specs" "$bench/proofs/drain" "$bench/proofs/read_all"
@@ -21,7 +23,7 @@ touch "$bench/specs/Lib.antt" "$bench/proofs/Lib.antt"
 
 cat >"$bench/proofs/drain/Invariants.antt" <<'ANTT'
 use Rattle.std.proofs.Common.{◌≡◌, ◌^◌, ◌<◌}
-use Rattle.rs_wire.specs.Readers.{fed_count}
+use Rattle.rs_request.specs.Readers.{fed_count}
 use Rattle.wire_bench.proofs.drain.Given as goal
 
 abbrev pub invariant-loop : goal.invariant-loop
@@ -30,7 +32,7 @@ ANTT
 
 cat >"$bench/proofs/read_all/Invariants.antt" <<'ANTT'
 use Rattle.std.proofs.Common.{◌≡◌, ◌-◌, ◌≤◌, length}
-use Rattle.rs_wire.specs.Readers.{fed_count}
+use Rattle.rs_request.specs.Readers.{fed_count}
 use Rattle.wire_bench.proofs.read_all.Given as goal
 
 abbrev pub invariant-loop-fed : goal.invariant-loop-fed
@@ -45,7 +47,7 @@ cat >"$bench/src/main.rt" <<'RATTLE'
 #![tactic(auto)]
 
 ghost use Rattle.std.specs.Prelude.{◌≡◌, ◌^◌, ◌<◌};
-ghost use Rattle.rs_wire.specs.Readers.{fed_count};
+ghost use Rattle.rs_request.specs.Readers.{fed_count};
 
 use rs_wire::{NextFault, RequestReader, Step};
 use std::alloc::{AllocError, Global};

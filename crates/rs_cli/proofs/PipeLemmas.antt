@@ -3,7 +3,7 @@ use Rattle.std.proofs.Common.{◌≡◌, ℕ, ◌+◌, ◌-◌, ◌^◌, ◌<◌
 use Rattle.rs_scope.specs.declared.scope.Scope.{Scope}
 use Rattle.rs_rules.specs.Contents.{Contents}
 use Rattle.rs_rules.specs.Histories.{History, IsFront}
-use Rattle.rs_wire.specs.declared.message.RequestMessage.{RequestMessage}
+use Rattle.rs_request.specs.declared.message.RequestMessage.{RequestMessage}
 use Rattle.rs_user.specs.declared.state.UserState.{UserState}
 use Rattle.rs_user.specs.Openings.{AreToldRows}
 use Rattle.rs_front.proofs.Cited.{front_refl, front_trans, goes_later}

@@ -15,8 +15,8 @@ use Rattle.rs_rules.specs.declared.cond.Cond.{Cond}
 use Rattle.rs_rules.specs.declared.pass.Pass.{Pass}
 use Rattle.rs_rules.specs.declared.request.Request.TheVariants.{Store}
 use Rattle.rs_rules.specs.Requests.{is_short_for}
-use Rattle.rs_wire.specs.declared.field.Field.{Field}
-use Rattle.rs_wire.specs.declared.message.RequestMessage.{RequestMessage}
+use Rattle.rs_request.specs.declared.field.Field.{Field}
+use Rattle.rs_request.specs.declared.message.RequestMessage.{RequestMessage}
 use Rattle.rs_exchange.specs.declared.account.Account.{Account}
 use Rattle.rs_exchange.specs.declared.answer.Answer.{Answer}
 use Rattle.rs_exchange.specs.declared.answer.Answer.TheVariants.{Preflight, Refused}

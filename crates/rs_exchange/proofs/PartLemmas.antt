@@ -2,9 +2,10 @@
 use Rattle.std.proofs.Common.{◌≡◌, ℕ, List, [], ◌∷◌, ◌++◌, length, codes, sym, ap, ◌∙◌, if◌then◌else◌}
 use Rattle.std.proofs.lemmas.List.{append-nil, append_assoc}
 use Rattle.std.proofs.lemmas.List.Concat.{flat_map-append}
-use Rattle.rs_wire.proofs.Cited.{reply_head_lines}
-use Rattle.rs_wire.specs.declared.field.Field.{Field}
-use Rattle.rs_wire.specs.Writing.{field_text, fields_text, start_text, status_digits, phrase_of, status_line, reply_head_text, reply_text}
+use Rattle.rs_reply.proofs.Cited.{reply_head_lines}
+use Rattle.rs_request.specs.declared.field.Field.{Field}
+use Rattle.rs_request.specs.Writing.{field_text, fields_text}
+use Rattle.rs_reply.specs.Writing.{start_text, status_digits, phrase_of, status_line, reply_head_text, reply_text}
 use Rattle.rs_exchange.specs.declared.manner.Manner.{Manner}
 use Rattle.rs_exchange.specs.Lines.{lines_of, first_lines, last_lines, head_lines}
 use Rattle.rs_exchange.specs.Replies.{Outline, origin_fields, length_fields, close_fields, reply_by}

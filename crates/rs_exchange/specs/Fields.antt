@@ -1,8 +1,8 @@
 -- The fields of a request by their names (RFC 9110, section 5).
 use Rattle.std.specs.Prelude.{◌≡◌, ℕ, ◌≤◌, List, [], ◌∷◌, ◌++◌, length, map, filter, Option, Some, None, codes}
 use Rattle.std.specs.List.{flat_map}
-use Rattle.rs_wire.specs.declared.field.Field.{Field}
-use Rattle.rs_wire.specs.Names.{is_field_named}
+use Rattle.rs_request.specs.declared.field.Field.{Field}
+use Rattle.rs_request.specs.Names.{is_field_named}
 use Rattle.rs_exchange.specs.declared.fields.Occurs.{Occurs}
 use Rattle.rs_exchange.specs.declared.fields.Occurs.TheVariants.{Never, Once, Often}
 

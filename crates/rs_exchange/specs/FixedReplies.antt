@@ -1,11 +1,11 @@
 -- Replies that are always the same: the interim reply, the one for want of memory, and those to bytes that are no request
 -- (RFC 9110, section 15; RFC 6585, section 5).
 use Rattle.std.specs.Prelude.{ℕ, Bool, List, [], ◌∷◌, Option, Some, None, codes}
-use Rattle.rs_wire.specs.declared.fault.WireWhy.{WireWhy}
-use Rattle.rs_wire.specs.declared.fault.WireWhy.TheVariants.{BadHead, HeadLong, TargetLong, BodyLong, BadLength, TwoLengths, BadChunk, Coding, Truncated}
-use Rattle.rs_wire.specs.declared.field.Field.{Field}
-use Rattle.rs_wire.specs.declared.message.ReplyMessage.{ReplyMessage}
-use Rattle.rs_wire.specs.Writing.{reply_text}
+use Rattle.rs_request.specs.declared.fault.WireWhy.{WireWhy}
+use Rattle.rs_request.specs.declared.fault.WireWhy.TheVariants.{BadHead, HeadLong, TargetLong, BodyLong, BadLength, TwoLengths, BadChunk, Coding, Truncated}
+use Rattle.rs_request.specs.declared.field.Field.{Field}
+use Rattle.rs_reply.specs.declared.message.ReplyMessage.{ReplyMessage}
+use Rattle.rs_reply.specs.Writing.{reply_text}
 use Rattle.rs_exchange.specs.Replies.{origin_field, exposed_field, close_field, close_fields}
 
 -- that there is no body

@@ -1,8 +1,9 @@
 -- The lines of a reply, part by part.
 use Rattle.std.specs.Prelude.{ℕ, Bool, List, [], ◌∷◌, ◌++◌, length}
 use Rattle.std.specs.List.{flat_map}
-use Rattle.rs_wire.specs.declared.field.Field.{Field}
-use Rattle.rs_wire.specs.Writing.{field_text, status_line}
+use Rattle.rs_request.specs.declared.field.Field.{Field}
+use Rattle.rs_request.specs.Writing.{field_text}
+use Rattle.rs_reply.specs.Writing.{status_line}
 use Rattle.rs_exchange.specs.declared.manner.Manner.{Manner}
 use Rattle.rs_exchange.specs.Replies.{Outline, origin_fields, length_fields, close_fields}
 

@@ -2,7 +2,7 @@
 use Rattle.std.specs.Prelude.{ℕ, ◌+◌, Bool, true, false, ◌||◌, ◌==◌}
 use Rattle.rs_scope.specs.declared.method.Method.{Method}
 use Rattle.rs_scope.specs.declared.method.Method.TheVariants.{Get, Head, Put, Delete}
-use Rattle.rs_wire.specs.declared.message.RequestMessage.{RequestMessage}
+use Rattle.rs_request.specs.declared.message.RequestMessage.{RequestMessage}
 use Rattle.rs_exchange.specs.declared.manner.Manner.{Manner}
 use Rattle.rs_exchange.specs.declared.verb.Verb.{Verb}
 use Rattle.rs_exchange.specs.declared.verb.Verb.TheVariants.{Data, Options, Post, Other}

@@ -1,7 +1,7 @@
 -- The fields that the code says of an answer.
 use Rattle.std.specs.Prelude.{◌≤◌, ⊤, Bool, true, false, List, [], ◌∷◌, length}
-use Rattle.rs_wire.specs.declared.field.Field.{Field}
-use Rattle.rs_wire.specs.Writing.{field_text}
+use Rattle.rs_request.specs.declared.field.Field.{Field}
+use Rattle.rs_request.specs.Writing.{field_text}
 use Rattle.rs_exchange.specs.declared.outline.OwnFields.{OwnFields}
 use Rattle.rs_exchange.specs.declared.outline.OwnFields.TheVariants.{Nothing, Tag, Same, Shown, Challenge, Allow, Preflight}
 use Rattle.rs_exchange.specs.Replies.{tag_field, fresh_field, shown_fields, challenge_field, allow_field, preflight_fields}

@@ -4,7 +4,7 @@ use Rattle.std.specs.Option.{option_map_or}
 use Rattle.rs_scope.specs.Tokens.{token_reading}
 use Rattle.rs_rules.specs.declared.pass.Pass.{Pass}
 use Rattle.rs_rules.specs.declared.pass.Pass.TheVariants.{Missing, Strange, Known}
-use Rattle.rs_wire.specs.Names.{same_name}
+use Rattle.rs_request.specs.Names.{same_name}
 
 -- the token, where there is one
 abbrev pub pass_of_token : Option (List ℕ) → Pass

@@ -2,9 +2,9 @@
 use Rattle.std.specs.Prelude.{ℕ, Bool, true, false, ◌==◌, ◌||◌, List, [], ◌∷◌, ◌++◌, length, codes, decimal, if◌then◌else◌}
 use Rattle.rs_rules.specs.declared.reply.Reply.{Reply}
 use Rattle.rs_rules.specs.declared.reply.Reply.TheVariants.{Found, Folder, Stored, Removed, Same, NoToken, BadToken, Forbidden, FolderWrite, Clash, Absent, Unmet, RecordsFull, OverQuota, FolderFull, StoreFailed, Granted, TokenTaken, Revoked, NotGranted}
-use Rattle.rs_wire.specs.declared.field.Field.{Field}
-use Rattle.rs_wire.specs.declared.message.ReplyMessage.{ReplyMessage}
-use Rattle.rs_wire.specs.Writing.{reply_text}
+use Rattle.rs_request.specs.declared.field.Field.{Field}
+use Rattle.rs_reply.specs.declared.message.ReplyMessage.{ReplyMessage}
+use Rattle.rs_reply.specs.Writing.{reply_text}
 use Rattle.rs_folder.specs.Descriptions.{folder_text}
 use Rattle.rs_exchange.specs.declared.answer.Answer.{Answer}
 use Rattle.rs_exchange.specs.declared.answer.Answer.TheVariants.{Decided, Preflight, Refused}

@@ -6,8 +6,8 @@ use Rattle.rs_path.specs.Readings.{target_reading}
 use Rattle.rs_scope.specs.declared.method.Method.{Method}
 use Rattle.rs_rules.specs.declared.cond.Cond.{Cond}
 use Rattle.rs_rules.specs.declared.request.Request.TheVariants.{Store}
-use Rattle.rs_wire.specs.declared.field.Field.{Field}
-use Rattle.rs_wire.specs.declared.message.RequestMessage.{RequestMessage}
+use Rattle.rs_request.specs.declared.field.Field.{Field}
+use Rattle.rs_request.specs.declared.message.RequestMessage.{RequestMessage}
 use Rattle.rs_exchange.specs.declared.account.Account.{Account}
 use Rattle.rs_exchange.specs.declared.answer.Answer.TheVariants.{Preflight, Refused}
 use Rattle.rs_exchange.specs.declared.asked.Asked.{Asked}

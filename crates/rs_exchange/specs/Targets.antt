@@ -3,7 +3,7 @@ use Rattle.std.specs.Prelude.{ℕ, Bool, not, ◌&&◌, ◌||◌, ◌==◌, nat_
 use Rattle.std.specs.Option.{option_map_or}
 use Rattle.std.specs.Str.{bytes_eq}
 use Rattle.rs_scope.specs.declared.method.Method.TheVariants.{Get, Head, Put, Delete}
-use Rattle.rs_wire.specs.Names.{same_name}
+use Rattle.rs_request.specs.Names.{same_name}
 use Rattle.rs_exchange.specs.declared.account.Account.{Account}
 use Rattle.rs_exchange.specs.declared.refusal.Methods.{Methods}
 use Rattle.rs_exchange.specs.declared.refusal.Methods.TheVariants as methods

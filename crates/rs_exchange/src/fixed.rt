@@ -1,7 +1,7 @@
 //! Replies that are always the same, and take no memory.
 
 ghost use Rattle.std.specs.Prelude.{◌≡◌, ◌++◌};
-ghost use Rattle.rs_wire.specs.Writing.{start_text, phrase_of};
+ghost use Rattle.rs_reply.specs.Writing.{start_text, phrase_of};
 ghost use Rattle.rs_exchange.specs.FixedReplies.{interim_bytes, starved_bytes, fault_status, closing_message, closing_bytes};
 
 use rs_wire::WireWhy;

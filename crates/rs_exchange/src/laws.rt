@@ -2,7 +2,7 @@
 
 ghost use Rattle.std.specs.Prelude.{◌≡◌, ◌<◌, ◌≤◌, ℕ, List, length, true};
 ghost use Rattle.rs_path.specs.Limits.{max_body};
-ghost use Rattle.rs_wire.specs.declared.message.RequestMessage.{RequestMessage};
+ghost use Rattle.rs_request.specs.declared.message.RequestMessage.{RequestMessage};
 ghost use Rattle.rs_exchange.specs.declared.account.Account.{Account};
 ghost use Rattle.rs_exchange.specs.Asking.{AsksOf, AsksShort};
 ghost use Rattle.rs_exchange.specs.Requests.{asked_of};

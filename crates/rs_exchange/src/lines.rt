@@ -160,7 +160,7 @@ fn put_close(out: &mut Vec<u8>, closing: bool) -> Result<(), NoMemory>
 
 // ---- one line
 
-#[tactic(auto, using(crate::proofs::PartLemmas::one_line), unfolding(rs_wire::specs::FieldValues::line_text, rs_wire::specs::FieldValues::tag_text))]
+#[tactic(auto, using(crate::proofs::PartLemmas::one_line), unfolding(rs_request::specs::FieldValues::line_text, rs_request::specs::FieldValues::tag_text))]
 fn put_text(out: &mut Vec<u8>, name: &[u8], text: &[u8]) -> Result<(), NoMemory>
     ensures put { OnOk result (out.new.items ≡ out.old.items ++ lines_of (text_field name.now text.now ∷ [])) }
     ensures capacity { vec_capacity out.old ≤ vec_capacity out.new }
@@ -169,7 +169,7 @@ fn put_text(out: &mut Vec<u8>, name: &[u8], text: &[u8]) -> Result<(), NoMemory>
     put_field_line(out, name, FieldValue::Text(text))
 }
 
-#[tactic(auto, using(crate::proofs::PartLemmas::one_line), unfolding(rs_wire::specs::FieldValues::line_text, rs_wire::specs::FieldValues::tag_text))]
+#[tactic(auto, using(crate::proofs::PartLemmas::one_line), unfolding(rs_request::specs::FieldValues::line_text, rs_request::specs::FieldValues::tag_text))]
 fn put_tag(out: &mut Vec<u8>, version: u64) -> Result<(), NoMemory>
     ensures put { OnOk result (out.new.items ≡ out.old.items ++ lines_of (tag_field version ∷ [])) }
     ensures capacity { vec_capacity out.old ≤ vec_capacity out.new }
@@ -186,7 +186,7 @@ fn put_fresh(out: &mut Vec<u8>) -> Result<(), NoMemory>
     put_text(out, b"Cache-Control", b"no-cache")
 }
 
-#[tactic(auto, using(crate::proofs::PartLemmas::one_line), unfolding(rs_wire::specs::FieldValues::line_text, rs_wire::specs::FieldValues::tag_text))]
+#[tactic(auto, using(crate::proofs::PartLemmas::one_line), unfolding(rs_request::specs::FieldValues::line_text, rs_request::specs::FieldValues::tag_text))]
 fn put_size(out: &mut Vec<u8>, size: usize) -> Result<(), NoMemory>
     ensures put { OnOk result (out.new.items ≡ out.old.items ++ lines_of (length_field size ∷ [])) }
     ensures capacity { vec_capacity out.old ≤ vec_capacity out.new }

@@ -1,7 +1,7 @@
 //! What an answer says: its status, and the fields that are its own.
 
 ghost use Rattle.std.specs.Prelude.{◌≡◌, ◌≤◌, true, false, ◌∷◌, [], length};
-ghost use Rattle.rs_wire.specs.Writing.{field_text};
+ghost use Rattle.rs_request.specs.Writing.{field_text};
 ghost use Rattle.rs_exchange.specs.declared.answer.Answer.TheVariants.{Decided};
 ghost use Rattle.rs_exchange.specs.Outlines.{own_fields, is_shown, IsShort};
 ghost use Rattle.rs_exchange.specs.Replies.{tag_field, fresh_field, challenge_field, shown_fields, has_content, outline_of, reply_outline, refusal_outline};

@@ -9,20 +9,20 @@ use Rattle.rs_face.specs.Told.{AppendsFront}
 use Rattle.rs_face.specs.declared.sink.SinkFault.{SinkFault}
 use Rattle.rs_face.proofs.Cited.{Consumes-nil, Consumes-trans, Appends-nil}
 use Rattle.rs_face.proofs.Cited.{Rose-later}
-use Rattle.rs_wire.specs.declared.fault.NextFault.TheVariants.{Wire}
-use Rattle.rs_wire.specs.declared.fault.WireFault.{WireFault}
-use Rattle.rs_wire.specs.declared.fault.WireWhy.TheVariants.{Truncated}
-use Rattle.rs_wire.specs.Bodies.{fault_at}
-use Rattle.rs_wire.specs.Limits.{max_message}
-use Rattle.rs_wire.specs.declared.message.RequestMessage.{RequestMessage}
-use Rattle.rs_wire.specs.declared.message.Step.TheVariants.{More, Interim, Message}
-use Rattle.rs_wire.specs.declared.reader.RequestReader.{RequestReader}
-use Rattle.rs_wire.specs.Division.{message_at, fed_next}
-use Rattle.rs_wire.specs.Laws.{fed_at, awaits}
-use Rattle.rs_wire.specs.Readers.{Stands, fed_count}
-use Rattle.rs_wire.specs.Readings.{Fed, Answer, more, interim, message, fault, next_of, step_of, fed_after, fed_with, finish_of}
-use Rattle.rs_wire.specs.Spelling.{SpellsRequest}
-use Rattle.rs_wire.specs.Taken.{BeginsWithRequest}
+use Rattle.rs_request.specs.declared.fault.NextFault.TheVariants.{Wire}
+use Rattle.rs_request.specs.declared.fault.WireFault.{WireFault}
+use Rattle.rs_request.specs.declared.fault.WireWhy.TheVariants.{Truncated}
+use Rattle.rs_request.specs.Bodies.{fault_at}
+use Rattle.rs_request.specs.Limits.{max_message}
+use Rattle.rs_request.specs.declared.message.RequestMessage.{RequestMessage}
+use Rattle.rs_request.specs.declared.message.Step.TheVariants.{More, Interim, Message}
+use Rattle.rs_request.specs.declared.reader.RequestReader.{RequestReader}
+use Rattle.rs_request.specs.Division.{message_at, fed_next}
+use Rattle.rs_request.specs.Laws.{fed_at, awaits}
+use Rattle.rs_request.specs.Readers.{Stands, fed_count}
+use Rattle.rs_request.specs.Readings.{Fed, Answer, more, interim, message, fault, next_of, step_of, fed_after, fed_with, finish_of}
+use Rattle.rs_request.specs.Spelling.{SpellsRequest}
+use Rattle.rs_request.specs.Taken.{BeginsWithRequest}
 use Rattle.rs_front.specs.declared.input.Next.{Next}
 use Rattle.rs_front.specs.declared.input.Next.TheVariants as next
 use Rattle.rs_face.specs.Courses.{Course}

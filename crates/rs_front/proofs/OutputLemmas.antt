@@ -6,7 +6,7 @@ use Rattle.rs_rules.specs.declared.request.Request.{Request}
 use Rattle.rs_rules.specs.Histories.{History, len, up_to, with_entries}
 use Rattle.rs_rules.specs.Answers.{answer, taken, entry_of}
 use Rattle.rs_rules.specs.Growth.{Grows}
-use Rattle.rs_wire.specs.declared.message.RequestMessage.{RequestMessage}
+use Rattle.rs_request.specs.declared.message.RequestMessage.{RequestMessage}
 use Rattle.rs_exchange.specs.declared.account.Account.{Account}
 use Rattle.rs_exchange.specs.declared.asked.Asked.{Asked}
 use Rattle.rs_exchange.specs.declared.asked.Asked.TheVariants.{Desk, Now}

@@ -6,12 +6,12 @@ use Rattle.rs_face.specs.Causes.{HasCause}
 use Rattle.rs_face.specs.declared.sink.SinkFault.{SinkFault}
 use Rattle.rs_face.specs.declared.sink.SinkFault.TheVariants as fault
 use Rattle.rs_rules.specs.Histories.{History}
-use Rattle.rs_wire.specs.declared.fault.WireFault.{WireFault}
-use Rattle.rs_wire.specs.declared.message.RequestMessage.{RequestMessage}
-use Rattle.rs_wire.specs.declared.reader.RequestReader.{RequestReader}
-use Rattle.rs_wire.specs.Division.{message_at, Divides}
-use Rattle.rs_wire.specs.Laws.{fed_at}
-use Rattle.rs_wire.specs.Readers.{Stands}
+use Rattle.rs_request.specs.declared.fault.WireFault.{WireFault}
+use Rattle.rs_request.specs.declared.message.RequestMessage.{RequestMessage}
+use Rattle.rs_request.specs.declared.reader.RequestReader.{RequestReader}
+use Rattle.rs_request.specs.Division.{message_at, Divides}
+use Rattle.rs_request.specs.Laws.{fed_at}
+use Rattle.rs_request.specs.Readers.{Stands}
 use Rattle.rs_exchange.specs.declared.account.Account.{Account}
 use Rattle.rs_front.specs.declared.input.Next.TheVariants as next
 use Rattle.rs_front.specs.declared.serve.End.{End}

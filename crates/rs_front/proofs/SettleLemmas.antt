@@ -18,7 +18,7 @@ use Rattle.rs_exchange.specs.declared.asked.Asked.{Asked}
 use Rattle.rs_exchange.specs.declared.asked.Asked.TheVariants.{Desk, Now}
 use Rattle.rs_exchange.specs.declared.manner.Manner.{Manner}
 use Rattle.rs_exchange.specs.declared.reply.Written.{Written}
-use Rattle.rs_wire.specs.declared.message.RequestMessage.{RequestMessage}
+use Rattle.rs_request.specs.declared.message.RequestMessage.{RequestMessage}
 use Rattle.rs_exchange.specs.declared.account.Account.{Account}
 use Rattle.rs_exchange.specs.FixedReplies.{starved_bytes}
 use Rattle.rs_exchange.specs.Manners.{is_head, is_last, manner_of}
@@ -26,7 +26,7 @@ use Rattle.rs_exchange.specs.Replies.{reply_bytes, has_content}
 use Rattle.rs_exchange.specs.Asking.{AsksOf}
 use Rattle.rs_exchange.specs.Requests.{asked_line, asked_of}
 use Rattle.rs_exchange.specs.Targets.{RequestLine, line_of}
-use Rattle.rs_wire.specs.declared.field.Field.{Field}
+use Rattle.rs_request.specs.declared.field.Field.{Field}
 use Rattle.rs_front.specs.Due.{Users, Outcome, answered, unkept, plain, starved, answer_of, answer_bytes, GoesOn}
 use Rattle.rs_front.specs.Settling.{Decides, Settles, RepliesTo}
 

@@ -4,8 +4,8 @@ use Rattle.rs_rules.specs.declared.reply.Reply.TheVariants.{StoreFailed}
 use Rattle.rs_rules.specs.Histories.{History, len, up_to}
 use Rattle.rs_rules.specs.Answers.{answer}
 use Rattle.rs_rules.specs.Growth.{Grows, AddsNothing}
-use Rattle.rs_wire.specs.declared.message.RequestMessage.{RequestMessage}
-use Rattle.rs_wire.specs.Laws.{awaits}
+use Rattle.rs_request.specs.declared.message.RequestMessage.{RequestMessage}
+use Rattle.rs_request.specs.Laws.{awaits}
 use Rattle.rs_exchange.specs.declared.account.Account.{Account}
 use Rattle.rs_exchange.specs.declared.answer.Answer.{Answer}
 use Rattle.rs_exchange.specs.declared.answer.Answer.TheVariants.{Decided}

@@ -2,11 +2,11 @@
 use Rattle.std.specs.Prelude.{◌≡◌, ℕ, ◌<◌, ◌≤◌, ◌⊎◌, ⊤, Bool, true, false, List, [], ◌∷◌, ◌++◌, length, take, Ok}
 use Rattle.std.specs.Io.KnownBytes.{Consumes, Appends, IsAtEnd}
 use Rattle.rs_rules.specs.Histories.{History}
-use Rattle.rs_wire.specs.declared.fault.WireFault.{WireFault}
-use Rattle.rs_wire.specs.declared.message.RequestMessage.{RequestMessage}
-use Rattle.rs_wire.specs.Division.{Divides}
-use Rattle.rs_wire.specs.Laws.{fed_at}
-use Rattle.rs_wire.specs.Readings.{more, finish_of}
+use Rattle.rs_request.specs.declared.fault.WireFault.{WireFault}
+use Rattle.rs_request.specs.declared.message.RequestMessage.{RequestMessage}
+use Rattle.rs_request.specs.Division.{Divides}
+use Rattle.rs_request.specs.Laws.{fed_at}
+use Rattle.rs_request.specs.Readings.{more, finish_of}
 use Rattle.rs_exchange.specs.declared.account.Account.{Account}
 use Rattle.rs_front.specs.declared.serve.End.{End}
 use Rattle.rs_front.specs.declared.serve.End.TheVariants.{Closed, Limit, ReadFault, WriteFault, NoMemory, BadMessage}

@@ -3,14 +3,14 @@ use Rattle.std.specs.Prelude.{◌≡◌, ℕ, ◌+◌, ◌-◌, ◌<◌, ◌≤�
 use Rattle.std.specs.Io.KnownBytes.{Consumes, Appends, IsAtEnd}
 use Rattle.rs_face.specs.Causes.{Rose}
 use Rattle.rs_face.specs.Told.{AppendsFront}
-use Rattle.rs_wire.specs.declared.fault.WireFault.{WireFault}
-use Rattle.rs_wire.specs.Limits.{max_message}
-use Rattle.rs_wire.specs.declared.message.Step.TheVariants.{Message}
-use Rattle.rs_wire.specs.declared.reader.RequestReader.{RequestReader}
-use Rattle.rs_wire.specs.Division.{message_at}
-use Rattle.rs_wire.specs.Laws.{fed_at}
-use Rattle.rs_wire.specs.Readers.{Stands}
-use Rattle.rs_wire.specs.Readings.{Fed, fed_with, more, interim, fault, next_of, step_of, finish_of}
+use Rattle.rs_request.specs.declared.fault.WireFault.{WireFault}
+use Rattle.rs_request.specs.Limits.{max_message}
+use Rattle.rs_request.specs.declared.message.Step.TheVariants.{Message}
+use Rattle.rs_request.specs.declared.reader.RequestReader.{RequestReader}
+use Rattle.rs_request.specs.Division.{message_at}
+use Rattle.rs_request.specs.Laws.{fed_at}
+use Rattle.rs_request.specs.Readers.{Stands}
+use Rattle.rs_request.specs.Readings.{Fed, fed_with, more, interim, fault, next_of, step_of, finish_of}
 use Rattle.rs_front.specs.declared.input.Filled.{Filled}
 use Rattle.rs_front.specs.declared.input.Filled.TheVariants.{More, End, Failed, NoMemory}
 use Rattle.rs_front.specs.declared.input.Next.{Next}

@@ -1,9 +1,9 @@
 -- What the bytes behind the last message come to.
 use Rattle.std.specs.Prelude.{◌≡◌, ℕ, ◌⊎◌, true, false, List, [], Option, Err}
 use Rattle.std.specs.Io.KnownBytes.{IsAtEnd}
-use Rattle.rs_wire.specs.declared.fault.WireFault.{WireFault}
-use Rattle.rs_wire.specs.Laws.{fed_at}
-use Rattle.rs_wire.specs.Readings.{Answer, more, interim, message, fault, next_of, finish_of}
+use Rattle.rs_request.specs.declared.fault.WireFault.{WireFault}
+use Rattle.rs_request.specs.Laws.{fed_at}
+use Rattle.rs_request.specs.Readings.{Answer, more, interim, message, fault, next_of, finish_of}
 use Rattle.rs_exchange.specs.FixedReplies.{interim_bytes}
 
 -- what the bytes from the place on come to, where the interim reply isn't told again

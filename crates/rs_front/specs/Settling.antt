@@ -2,7 +2,7 @@
 use Rattle.std.specs.Prelude.{◌≡◌, ℕ, List, [], ◌∷◌, ◌++◌, Some, Result, Ok, Err}
 use Rattle.rs_face.specs.Courses.{Course, Writes}
 use Rattle.rs_rules.specs.Histories.{History}
-use Rattle.rs_wire.specs.declared.message.RequestMessage.{RequestMessage}
+use Rattle.rs_request.specs.declared.message.RequestMessage.{RequestMessage}
 use Rattle.rs_exchange.specs.declared.account.Account.{Account}
 use Rattle.rs_exchange.specs.declared.answer.Answer.{Answer}
 use Rattle.rs_exchange.specs.declared.asked.Asked.{Asked}

@@ -2,9 +2,9 @@
 
 ghost use Rattle.std.specs.Prelude.{◌≡◌, ◌+◌, ◌<◌, ◌≤◌, ◌^◌, ℕ, List, Bool, false};
 ghost use Rattle.rs_face.specs.Courses.{course};
-ghost use Rattle.rs_wire.specs.Readers.{Stands, fed_count};
-ghost use Rattle.rs_wire.specs.Readings.{Fed, finish_of};
-ghost use Rattle.rs_wire.specs.Laws.{fed_at};
+ghost use Rattle.rs_request.specs.Readers.{Stands, fed_count};
+ghost use Rattle.rs_request.specs.Readings.{Fed, finish_of};
+ghost use Rattle.rs_request.specs.Laws.{fed_at};
 ghost use Rattle.rs_front.specs.Inputs.{Fills, ending, most_read, ReadsOn, ReadsNext, IsBetween, IsReading};
 
 use crate::sending::send_fixed;

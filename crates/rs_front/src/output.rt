@@ -3,7 +3,7 @@
 ghost use Rattle.std.specs.Prelude.{◌≡◌, ℕ, List, true};
 ghost use Rattle.std.specs.List.{list_all};
 ghost use Rattle.rs_rules.specs.Histories.{History};
-ghost use Rattle.rs_wire.specs.declared.message.RequestMessage.{RequestMessage};
+ghost use Rattle.rs_request.specs.declared.message.RequestMessage.{RequestMessage};
 ghost use Rattle.rs_exchange.specs.declared.account.Account.{Account};
 ghost use Rattle.rs_front.specs.Due.{Users, Outcome, is_whole, due, GoesAlong};
 

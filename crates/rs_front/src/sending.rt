@@ -4,7 +4,7 @@ ghost use Rattle.std.specs.Prelude.{◌++◌};
 ghost use Rattle.rs_face.specs.declared.sink.SinkFault.TheVariants as SinkFault;
 ghost use Rattle.rs_face.specs.Causes.{HasCause};
 ghost use Rattle.rs_face.specs.Courses.{course, Writes};
-ghost use Rattle.rs_wire.specs.Writing.{start_text, phrase_of};
+ghost use Rattle.rs_reply.specs.Writing.{start_text, phrase_of};
 
 use rs_face::{Sink, SinkFault, write_all};
 use rs_wire::{phrase_of, status_start};

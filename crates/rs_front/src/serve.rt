@@ -3,12 +3,12 @@
 ghost use Rattle.std.specs.Prelude.{◌≡◌, ◌≤◌, ◌++◌, ℕ};
 ghost use Rattle.rs_face.specs.Courses.{course};
 ghost use Rattle.rs_rules.specs.Desks.{ForHistories};
-ghost use Rattle.rs_wire.specs.Readers.{Stands};
-ghost use Rattle.rs_wire.specs.Readings.{unfed};
+ghost use Rattle.rs_request.specs.Readers.{Stands};
+ghost use Rattle.rs_request.specs.Readings.{unfed};
 ghost use Rattle.rs_exchange.specs.Accounts.{IsAccount};
 ghost use Rattle.rs_front.specs.Due.{users_of_desk};
 ghost use Rattle.rs_front.specs.Ends.{Serves};
-ghost use Rattle.rs_wire.specs.Writing.{start_text, phrase_of};
+ghost use Rattle.rs_reply.specs.Writing.{start_text, phrase_of};
 ghost use Rattle.rs_exchange.specs.FixedReplies.{fault_bytes};
 ghost use Rattle.rs_front.specs.Sending.{EndsWith, end_of};
 

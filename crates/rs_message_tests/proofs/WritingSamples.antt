@@ -5,15 +5,16 @@ use Rattle.std.proofs.lemmas.List.Elements.{All-nil, All-cons}
 use Rattle.std.proofs.lemmas.Str.{IsUtf8-from_ascii}
 use Rattle.std.proofs.lemmas.Str.Ascii.{IsAscii-from_all}
 use Rattle.httparse.specs.Grammar.{is_uri_byte, is_token_byte, trim_ows, print_request}
-use Rattle.rs_wire.specs.declared.field.Field.{Field}
-use Rattle.rs_wire.specs.declared.message.RequestMessage.{RequestMessage}
-use Rattle.rs_wire.specs.declared.message.ReplyMessage.{ReplyMessage}
-use Rattle.rs_wire.specs.Limits.{max_fields, max_head}
-use Rattle.rs_wire.specs.Framing.{stated, is_chunked, has_two_lengths, has_bad_length, is_length, same_length, head_framing, has_its_host, request_framing, ends_connection}
-use Rattle.rs_wire.specs.Names.{same_name}
-use Rattle.rs_wire.specs.Items.{lists}
-use Rattle.rs_wire.specs.Writing.{line_for, IsWritable, IsWritableReply}
-use Rattle.rs_wire.proofs.Cited.{IsToken-from_test, AllPass-from_test, IsField-from_tests}
+use Rattle.rs_request.specs.declared.field.Field.{Field}
+use Rattle.rs_request.specs.declared.message.RequestMessage.{RequestMessage}
+use Rattle.rs_reply.specs.declared.message.ReplyMessage.{ReplyMessage}
+use Rattle.rs_request.specs.Limits.{max_fields, max_head}
+use Rattle.rs_request.specs.Framing.{stated, is_chunked, has_two_lengths, has_bad_length, is_length, same_length, head_framing, has_its_host, request_framing, ends_connection}
+use Rattle.rs_request.specs.Names.{same_name}
+use Rattle.rs_request.specs.Items.{lists}
+use Rattle.rs_request.specs.Writing.{line_for, IsWritable}
+use Rattle.rs_reply.specs.Writing.{IsWritableReply}
+use Rattle.rs_request.proofs.Cited.{IsToken-from_test, AllPass-from_test, IsField-from_tests}
 
 abbrev pub named : List ℕ → List ℕ → Field
 named name value = record { name = name; value = value }

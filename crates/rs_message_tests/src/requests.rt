@@ -1,7 +1,7 @@
 //! Requests as they stand on the wire, in one piece and in pieces of one, two and three bytes, and some cut at each byte.
 
 ghost use Rattle.std.specs.Prelude.{◌≡◌, ◌^◌, ◌<◌};
-ghost use Rattle.rs_wire.specs.Readers.{fed_count};
+ghost use Rattle.rs_request.specs.Readers.{fed_count};
 
 use crate::rows::{bytes_of, cells, next_cell};
 use rs_wire::{NextFault, RequestMessage, RequestReader, Step, WireFault};

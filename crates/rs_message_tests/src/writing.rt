@@ -1,7 +1,8 @@
 //! Messages that were written, read back.
 
 ghost use Rattle.std.specs.Prelude.{◌≡◌, ◌++◌, [], ◌∷◌, false, IfOk, OnOk};
-ghost use Rattle.rs_wire.specs.Writing.{IsWritable, IsWritableReply};
+ghost use Rattle.rs_request.specs.Writing.{IsWritable};
+ghost use Rattle.rs_reply.specs.Writing.{IsWritableReply};
 
 use crate::replies::FOUND;
 use rs_path::{Bytes, NoMemory};

@@ -1,7 +1,7 @@
 use Rattle.std.proofs.Common.{◌++◌, arith, refl, ap, ◌∙◌, Ok, sym, inr}
 use Rattle.rs_face.proofs.Cited.{Consumes-trans}
-use Rattle.rs_wire.specs.Laws.{fed_at}
-use Rattle.rs_wire.specs.Readers.{fed_count}
+use Rattle.rs_request.specs.Laws.{fed_at}
+use Rattle.rs_request.specs.Readers.{fed_count}
 use Rattle.rs_front.proofs.InputLemmas.{read_more, lazy_more, came_message, came_nothing, came_end, waits, waits_short, piece_counted, count_of, nearer, consumed_still}
 use Rattle.rs_front.proofs.input.read_on.Goals as goal
 

@@ -1,7 +1,7 @@
 use Rattle.std.proofs.Common.{◌-◌, ◌+◌, ◌≤◌, ℕ, List, Bool}
 use Rattle.rs_face.specs.Courses.{course}
-use Rattle.rs_wire.specs.Laws.{fed_at}
-use Rattle.rs_wire.specs.Readers.{Stands, fed_count}
+use Rattle.rs_request.specs.Laws.{fed_at}
+use Rattle.rs_request.specs.Readers.{Stands, fed_count}
 use Rattle.rs_front.specs.Inputs.{most_read}
 use Rattle.rs_front.proofs.InputLemmas.{ReadSoFar}
 use Rattle.rs_front.proofs.input.read_on.Given as goal

@@ -1,5 +1,5 @@
 use Rattle.std.proofs.lemmas.Result.{err_from_is_err_and}
-use Rattle.rs_wire.specs.Writing.{start_text, phrase_of}
+use Rattle.rs_reply.specs.Writing.{start_text, phrase_of}
 use Rattle.rs_face.proofs.Cited.{AppendsFront-longer}
 use Rattle.std.proofs.Common.{ℕ, List, ◌++◌, subst}
 use Rattle.std.specs.Io.KnownBytes.{Appends}

@@ -1,6 +1,6 @@
 use Rattle.std.proofs.Common.{ℕ, ◌-◌, ◌++◌, List, drop, subst, [], arith}
 use Rattle.rs_face.specs.Courses.{course}
-use Rattle.rs_wire.specs.Readings.{unfed}
+use Rattle.rs_request.specs.Readings.{unfed}
 use Rattle.rs_front.specs.declared.serve.End.TheVariants.{NoMemory}
 use Rattle.rs_front.specs.Sending.{EndsWith}
 use Rattle.rs_front.proofs.InputLemmas.{count_of, laws_of}

@@ -1,7 +1,7 @@
 use Rattle.std.proofs.Common.{◌+◌, ◌*◌, ◌≤◌}
 use Rattle.rs_face.specs.Courses.{course}
 use Rattle.rs_rules.specs.Desks.{ForHistories}
-use Rattle.rs_wire.specs.Readers.{fed_count}
+use Rattle.rs_request.specs.Readers.{fed_count}
 use Rattle.rs_exchange.specs.Accounts.{IsAccount}
 use Rattle.rs_front.specs.Due.{users_of_desk}
 use Rattle.rs_front.specs.Inputs.{most_read, IsBetween}

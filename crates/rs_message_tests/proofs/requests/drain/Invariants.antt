@@ -1,5 +1,5 @@
 use Rattle.std.proofs.Common.{◌≡◌, ◌^◌, ◌<◌}
-use Rattle.rs_wire.specs.Readers.{fed_count}
+use Rattle.rs_request.specs.Readers.{fed_count}
 use Rattle.rs_message_tests.proofs.requests.drain.Given as goal
 
 abbrev pub invariant-loop : goal.invariant-loop

@@ -1,5 +1,5 @@
 use Rattle.std.proofs.Common.{◌≡◌, ◌-◌, ◌≤◌, length}
-use Rattle.rs_wire.specs.Readers.{fed_count}
+use Rattle.rs_request.specs.Readers.{fed_count}
 use Rattle.rs_message_tests.proofs.requests.outcome.Given as goal
 
 abbrev pub invariant-loop-fed : goal.invariant-loop-fed

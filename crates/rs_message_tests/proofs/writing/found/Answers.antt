@@ -1,5 +1,5 @@
 use Rattle.std.proofs.Common.{◌≡◌, ◌++◌, [], ◌∷◌, List, refl, ap, ◌∙◌}
-use Rattle.rs_wire.specs.declared.field.Field.{Field}
+use Rattle.rs_request.specs.declared.field.Field.{Field}
 use Rattle.rs_message_tests.proofs.WritingSamples.{origin, exposed, tag, cached, kind, sized, found_is_writable}
 use Rattle.rs_message_tests.proofs.writing.found.Goals as goal
 

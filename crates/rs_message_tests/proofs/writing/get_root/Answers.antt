@@ -1,6 +1,6 @@
 use Rattle.std.proofs.Common.{◌++◌, [], ◌∷◌, List, refl, ap, ◌∙◌}
 use Rattle.std.specs.Prelude.{codes}
-use Rattle.rs_wire.specs.declared.field.Field.{Field}
+use Rattle.rs_request.specs.declared.field.Field.{Field}
 use Rattle.rs_message_tests.proofs.WritingSamples.{named, get_root_is_writable}
 use Rattle.rs_message_tests.proofs.writing.get_root.Goals as goal
 

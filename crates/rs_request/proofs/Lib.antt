@@ -1,0 +1,21 @@
+mod AnswerLemmas
+mod BodyLemmas
+mod ChunkLemmas
+pub mod Cited
+mod DivisionLemmas
+mod EndLemmas
+mod HeadLemmas
+mod ItemLemmas
+mod LengthLemmas
+mod LinesLemmas
+mod MoveLemmas
+mod NameLemmas
+mod RequestLemmas
+mod RestLemmas
+mod SpellingLemmas
+mod StandsLemmas
+mod StreamLemmas
+mod TakenLemmas
+mod TextLemmas
+mod UnfinishedLemmas
+mod WrittenLemmas

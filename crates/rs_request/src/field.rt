@@ -1,0 +1,56 @@
+//! The fields of a message (RFC 9110, section 5).
+
+ghost use Rattle.std.specs.Prelude.{◌≡◌, [], ◌∷◌, ◌++◌, OnOk, OnErr};
+
+use rs_path::{Bytes, NoMemory};
+use std::alloc::Global;
+use std::marker::Model;
+
+/// A field of a message: a name and a value without white space around it.
+#[derive(Debug, Drop, PartialEq, Eq)]
+pub struct Field {
+    pub name: Bytes,
+    pub value: Bytes,
+}
+
+/// The fields of a message, in their order. A contract sees them as their list.
+#[derive(Debug, Drop)]
+pub struct Fields {
+    list: Vec<Field>,
+}
+
+impl Model for Fields {
+    ghost use Rattle.std.specs.Prelude.{List};
+    ghost use Rattle.rs_request.specs.declared.field.Field.{Field};
+
+    ghost Value = { List Field };
+
+    ghost view = { λ f. f.list.items };
+}
+
+impl Fields {
+    /// No fields.
+    pub fn new(alloc: Global) -> Fields
+        ensures empty { result ≡ [] }
+    {
+        Fields {
+            list: Vec::new(alloc),
+        }
+    }
+
+    /// Puts a field at the end. Where there is no memory, the field is dropped.
+    pub fn push(&mut self, field: Field) -> Result<(), NoMemory>
+        ensures ok { OnOk result (self.new ≡ self.old ++ field ∷ []) }
+        ensures err { OnErr result (self.new ≡ self.old) }
+    {
+        self.list.push(field)?;
+        Ok(())
+    }
+
+    /// The fields.
+    pub fn as_slice(&self) -> &[Field]
+        ensures fields { result.now ≡ self.now }
+    {
+        self.list.as_slice()
+    }
+}

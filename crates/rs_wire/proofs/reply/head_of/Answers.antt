@@ -1,6 +1,0 @@
-use Rattle.rs_wire.proofs.ReplySteps.{judged_reply_parts}
-use Rattle.rs_wire.proofs.reply.head_of.Goals as goal
-
-pub returns : goal.returns
-returns c =
-    judged_reply_parts c.args.at c.args.end c.args.text.now c.args.room.now c.args.spans.now c.requires c.in_ok-fields.fields c.in_ok-fields.ensures

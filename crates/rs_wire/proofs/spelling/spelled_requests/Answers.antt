@@ -1,5 +1,0 @@
-use Rattle.rs_wire.proofs.SpellingLemmas.{spelled_is_read, no_proper_prefix}
-use Rattle.rs_wire.proofs.spelling.spelled_requests.Goals as goal
-
-pub returns : goal.returns
-returns c = record { read = spelled_is_read; no_prefix = no_proper_prefix }
