@@ -31,6 +31,8 @@ class Request:
     if_none: object
     kind: str
     body: bytes
+    # whether a Content-Range says that the body is a part
+    part: bool
 
 
 @dataclass
@@ -103,6 +105,8 @@ class User:
 
     def answer(self, request):
         path, folder, write = request.path, request.path.endswith("/"), request.method in ("PUT", "DELETE")
+        if request.part and request.method == "PUT":
+            return Reply(400)
         refused = self.refused(request)
         if refused:
             return refused
@@ -172,6 +176,7 @@ def a_request(chance, user):
         if_none=a_condition(chance, user, path),
         kind=chance.choice(KINDS),
         body=bytes(chance.choices(b"abc\r\n", k=chance.randint(0, 40))),
+        part=chance.random() < 0.03,
     )
 
 
@@ -196,6 +201,7 @@ def spelling(chance, request):
     head = f"{request.method} /storage/alice{request.path} HTTP/1.1\r\nHost: localhost\r\n"
     head += f"Authorization: Bearer {request.token}\r\n" if request.token else ""
     head += condition_line("If-Match", request.if_match) + condition_line("If-None-Match", request.if_none)
+    head += "Content-Range: bytes 0-1/9\r\n" if request.part else ""
     if request.method != "PUT":
         return (head + "\r\n").encode()
     head += f"Content-Type: {request.kind}\r\n"

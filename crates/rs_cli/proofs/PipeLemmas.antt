@@ -64,6 +64,7 @@ again earlier before now sooner served = record {
 -- where the sink stopped, or reading wanted memory, doesn't hang on when faults were counted first
 cut_again : {users : Users} {accounts : List Account} {source sink : Course (List ℕ)} {old : ℕ → History} (earlier before now : ℕ) (sooner : earlier ≤ before)
     (served : Served users accounts source sink old before now) → IsCut served → IsCut (again earlier before now sooner served)
+unfolding again
 cut_again earlier before now sooner served (inl it) = inl (record {
   messages = it.messages;
   outcomes = it.outcomes;
@@ -80,6 +81,7 @@ cut_again earlier before now sooner served (inr it) = inr (record { front = it.f
 
 starved_again : {users : Users} {accounts : List Account} {source sink : Course (List ℕ)} {old : ℕ → History} (earlier before now : ℕ) (sooner : earlier ≤ before)
     (served : Served users accounts source sink old before now) → IsStarved served → IsStarved (again earlier before now sooner served)
+unfolding again
 starved_again earlier before now sooner served it = record { first = it.first; further = it.further; so_far = it.so_far; wrote = it.wrote }
 
 ends_again : (users : Users) (accounts : List Account) (source sink wants : Course (List ℕ)) (old : ℕ → History) (earlier before now : ℕ) (sooner : earlier ≤ before)
