@@ -1,0 +1,5 @@
+mod UserLemmas
+mod AccountLemmas
+mod JrdLemmas
+mod QueryLemmas
+mod AnswerLemmas

@@ -1,0 +1,5 @@
+pub mod Accounts
+pub mod Answers
+pub mod JrdReadings
+pub mod Jrds
+pub mod Queries

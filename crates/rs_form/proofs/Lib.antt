@@ -1,0 +1,3 @@
+pub mod Cited
+mod TextBytes
+mod FieldLemmas

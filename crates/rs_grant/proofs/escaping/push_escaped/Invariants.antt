@@ -1,0 +1,6 @@
+use Rattle.std.proofs.Common.{◌≡◌, ◌++◌, take}
+use Rattle.rs_grant.specs.Escapes.{escaped_text}
+use Rattle.rs_grant.proofs.escaping.push_escaped.Given as goal
+
+abbrev pub invariant-loop-byte : goal.invariant-loop-byte
+invariant-loop-byte l = l.out.items ≡ l.fn.out.items ++ escaped_text (take l.byte-index l.text)
