@@ -16,8 +16,8 @@ use Rattle.rs_exchange.specs.Targets.{method_list}
 -- ---- fields
 
 -- a field with this name and this text
-abbrev pub text_field : List ℕ → List ℕ → Field
-text_field name text = record { name = name; value = text }
+abbrev pub named_field : List ℕ → List ℕ → Field
+named_field name text = record { name = name; value = text }
 
 -- the entity tag of a version (RFC 9110, section 8.8.3)
 abbrev pub tag_field : ℕ → Field

@@ -21,7 +21,7 @@ use Rattle.rs_exchange.specs.Conditions.{cond_of}
 use Rattle.rs_exchange.specs.ContentTypes.{kind_of, is_part}
 use Rattle.rs_exchange.specs.Fields.{values_of}
 use Rattle.rs_exchange.specs.Passes.{pass_of}
-use Rattle.rs_exchange.specs.Targets.{Target, Server, Storage, Discovery, Grant, Nothing, RequestLine, line_of}
+use Rattle.rs_exchange.specs.Targets.{Target, Server, Storage, Discovery, Grant, Nothing, RequestLine, request_line_of}
 
 -- the message is refused, and no desk is asked
 abbrev pub refused : Refusal → Asked
@@ -89,4 +89,4 @@ asked_line fields body line = asked_there fields body line.verb line.target
 
 -- what the message asks of a server of these users
 abbrev pub asked_of : List Account → RequestMessage → Asked
-asked_of accounts m = asked_line m.fields m.body (line_of accounts m.method m.target)
+asked_of accounts m = asked_line m.fields m.body (request_line_of accounts m.method m.target)

@@ -131,8 +131,8 @@ pub record RequestLine : Type 0 where
   pub shared : Bool
 
 -- what a method and a target are, to a server of these users
-abbrev pub line_of : List Account → List ℕ → List ℕ → RequestLine
-line_of accounts method target = let text = path_part target in
+abbrev pub request_line_of : List Account → List ℕ → List ℕ → RequestLine
+request_line_of accounts method target = let text = path_part target in
     record { verb = verb_of method; target = target_of accounts text; shared = is_shared text }
 
 -- what the code's request line is

@@ -3,7 +3,7 @@
 ghost use Rattle.std.specs.Prelude.{◌≡◌, ◌+◌, ◌<◌, ◌≤◌, true, [], ◌∷◌, ◌++◌, length, OnOk, OnErr, vec_capacity};
 ghost use Rattle.rs_exchange.specs.Lines.{lines_of, first_lines, last_lines};
 ghost use Rattle.rs_exchange.specs.Outlines.{own_fields};
-ghost use Rattle.rs_exchange.specs.Replies.{text_field, tag_field, fresh_field, length_field, shown_fields, preflight_fields, origin_fields, length_fields, close_fields};
+ghost use Rattle.rs_exchange.specs.Replies.{named_field, tag_field, fresh_field, length_field, shown_fields, preflight_fields, origin_fields, length_fields, close_fields};
 
 use crate::outline::{Outline, OwnFields};
 use rs_path::NoMemory;
@@ -162,9 +162,9 @@ fn put_close(out: &mut Vec<u8>, closing: bool) -> Result<(), NoMemory>
 
 #[tactic(auto, using(crate::proofs::PartLemmas::one_line), unfolding(rs_request::specs::FieldValues::line_text, rs_request::specs::FieldValues::tag_text))]
 fn put_text(out: &mut Vec<u8>, name: &[u8], text: &[u8]) -> Result<(), NoMemory>
-    ensures put { OnOk result (out.new.items ≡ out.old.items ++ lines_of (text_field name.now text.now ∷ [])) }
+    ensures put { OnOk result (out.new.items ≡ out.old.items ++ lines_of (named_field name.now text.now ∷ [])) }
     ensures capacity { vec_capacity out.old ≤ vec_capacity out.new }
-    ensures full { OnErr result (vec_capacity out.old < length out.old.items + length (lines_of (text_field name.now text.now ∷ []))) }
+    ensures full { OnErr result (vec_capacity out.old < length out.old.items + length (lines_of (named_field name.now text.now ∷ []))) }
 {
     put_field_line(out, name, FieldValue::Text(text))
 }

@@ -1,7 +1,7 @@
 //! The request line of a message (RFC 9112, section 3), read once.
 
 ghost use Rattle.std.specs.Prelude.{◌≡◌};
-ghost use Rattle.rs_exchange.specs.Targets.{is_shared, line_of, line_seen};
+ghost use Rattle.rs_exchange.specs.Targets.{is_shared, request_line_of, line_seen};
 
 use crate::account::Accounts;
 use crate::target::{Target, path_part, target_of};
@@ -18,7 +18,7 @@ pub struct RequestLine<'a> {
 
 /// Reads the method and the target of a message, as they stand in it.
 pub fn read_line<'a>(accounts: &Accounts, method: &[u8], target: &'a [u8]) -> RequestLine<'a>
-    ensures line { line_seen result ≡ line_of accounts.now method.now target.now }
+    ensures line { line_seen result ≡ request_line_of accounts.now method.now target.now }
 {
     let text = path_part(target);
     RequestLine {

@@ -25,7 +25,7 @@ use Rattle.rs_exchange.specs.Manners.{is_head, is_last, manner_of}
 use Rattle.rs_exchange.specs.Replies.{reply_bytes, has_content}
 use Rattle.rs_exchange.specs.Asking.{AsksOf}
 use Rattle.rs_exchange.specs.Requests.{asked_line, asked_of}
-use Rattle.rs_exchange.specs.Targets.{RequestLine, line_of}
+use Rattle.rs_exchange.specs.Targets.{RequestLine, request_line_of}
 use Rattle.rs_request.specs.declared.field.Field.{Field}
 use Rattle.rs_front.specs.Due.{Users, Outcome, answered, unkept, plain, starved, answer_of, answer_bytes, GoesOn}
 use Rattle.rs_front.specs.Settling.{Decides, Settles, RepliesTo}
@@ -228,20 +228,20 @@ served_by S T (Now a) all served = served
 -- ---- a message's parts
 
 -- the request line that was read of a message
-pub line_is : (accounts : List Account) (m : RequestMessage) (method target : List ℕ) (line : RequestLine) → line ≡ line_of accounts method target
-    → method ≡ m.method → target ≡ m.target → line ≡ line_of accounts m.method m.target
+pub line_is : (accounts : List Account) (m : RequestMessage) (method target : List ℕ) (line : RequestLine) → line ≡ request_line_of accounts method target
+    → method ≡ m.method → target ≡ m.target → line ≡ request_line_of accounts m.method m.target
 line_is accounts m method target line is same_method same_target =
-    is ∙ ap (λ (l : List ℕ). line_of accounts l target) same_method ∙ ap (line_of accounts m.method) same_target
+    is ∙ ap (λ (l : List ℕ). request_line_of accounts l target) same_method ∙ ap (request_line_of accounts m.method) same_target
 
 -- the manner that was made of it
-pub manner_is : (accounts : List Account) (count : ℕ) (m : RequestMessage) (line : RequestLine) (manner : Manner) → line ≡ line_of accounts m.method m.target
+pub manner_is : (accounts : List Account) (count : ℕ) (m : RequestMessage) (line : RequestLine) (manner : Manner) → line ≡ request_line_of accounts m.method m.target
     → manner ≡ record { shared = line.shared; bodiless = is_head line.verb; closing = m.close || is_last count } → manner ≡ manner_of count m
 manner_is accounts count m line manner same is =
     is ∙ ap (λ (l : RequestLine). record { shared = l.shared; bodiless = is_head l.verb; closing = m.close || is_last count }) same
 
 -- what the message asks by its parts
 pub asked_is : (accounts : List Account) (m : RequestMessage) (fields : List Field) (line : RequestLine) → fields ≡ m.fields
-    → line ≡ line_of accounts m.method m.target → asked_line fields m.body line ≡ asked_of accounts m
+    → line ≡ request_line_of accounts m.method m.target → asked_line fields m.body line ≡ asked_of accounts m
 asked_is accounts m fields line same_fields same_line =
     ap (λ (f : List Field). asked_line f m.body line) same_fields ∙ ap (asked_line m.fields m.body) same_line
 
