@@ -1,3 +1,5 @@
 mod AskedLemmas
+mod FieldLemmas
 mod PartLemmas
+mod ReadBackLemmas
 mod RoomLemmas

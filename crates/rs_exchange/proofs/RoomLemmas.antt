@@ -21,7 +21,7 @@ use Rattle.rs_exchange.specs.Targets.{method_list}
 
 -- ---- the parts
 
-field_length : (f : Field) → length (field_text f) ≡ length f.name + (2 + (length f.value + 2))
+pub field_length : (f : Field) → length (field_text f) ≡ length f.name + (2 + (length f.value + 2))
 field_length f = rw (length-append, length-append, length-append) refl
 
 -- an entity tag has at most 20 digits
@@ -60,7 +60,7 @@ all_short status =
 phrase_short : (status : ℕ) → length (phrase_of status) ≤ 40
 phrase_short status = (all_short status).short
 
-status_line_short : (status : ℕ) → length (status_line status) ≤ 60
+pub status_line_short : (status : ℕ) → length (status_line status) ≤ 60
 unfolding status_line
 status_line_short status =
     rw (length-append, length-append, length-append) (let short = phrase_short status in omega (arith, short))
@@ -69,7 +69,7 @@ origin_short : (shared : Bool) → length (lines_of (origin_fields shared)) ≤ 
 origin_short true = omega arith
 origin_short false = omega arith
 
-list_short : (m : Methods) → length (method_list m) ≤ 40
+pub list_short : (m : Methods) → length (method_list m) ≤ 40
 unfolding method_list
 list_short methods.Storage = omega arith
 list_short methods.Discovery = omega arith
@@ -88,14 +88,14 @@ own_short (own.Allow m) plain short =
     rw (length-append) (let all = field_length (record { name = codes "Allow"; value = method_list m }) in omega (arith, all, listed))
 own_short own.Preflight plain short = omega arith
 
-length_short : (status : ℕ) → length (lines_of (length_fields status 0)) ≤ 60
-length_short status = by_test (status == 204 || status == 304)
+length_short : (status size : ℕ) → size < 2 ^ 64 → length (lines_of (length_fields status size)) ≤ 60
+length_short status size small = by_test (status == 204 || status == 304)
   where
-    by_test : (b : Bool) → length (lines_of (cond b [] (length_field 0 ∷ []))) ≤ 60
+    by_test : (b : Bool) → length (lines_of (cond b [] (length_field size ∷ []))) ≤ 60
     by_test true = omega arith
     by_test false =
-        let digits : length (decimal 0) ≤ 20 = length-decimal-le 20 0 (omega arith) (omega arith) (omega arith) in
-        rw (length-append, field_length (length_field 0)) (omega (arith, digits))
+        let digits : length (decimal size) ≤ 20 = length-decimal-le 20 size (omega arith) (omega arith) small in
+        rw (length-append, field_length (length_field size)) (omega (arith, digits))
 
 close_short : (closing : Bool) → length (lines_of (close_fields closing)) ≤ 40
 close_short true = omega arith
@@ -103,17 +103,17 @@ close_short false = omega arith
 
 -- ---- whole heads
 
-first_short : (shared : Bool) (status : ℕ) (own : List Field) → length (lines_of own) ≤ 400 → length (first_lines shared status own) ≤ 600
+pub first_short : (shared : Bool) (status : ℕ) (own : List Field) → length (lines_of own) ≤ 400 → length (first_lines shared status own) ≤ 600
 unfolding first_lines
 first_short shared status own short =
     let line = status_line_short status in
     let origin = origin_short shared in
     rw (length-append, length-append) (omega (arith, line, origin, short))
 
-last_short : (closing : Bool) (status : ℕ) → length (last_lines closing status 0) ≤ 120
+pub last_short : (closing : Bool) (status size : ℕ) → size < 2 ^ 64 → length (last_lines closing status size) ≤ 120
 unfolding last_lines
-last_short closing status =
-    let size = length_short status in
+last_short closing status size small =
+    let size = length_short status size small in
     let close = close_short closing in
     rw (length-append, length-append) (omega (arith, size, close))
 
@@ -167,7 +167,7 @@ pub too_long_last : (shared closing : Bool) (status size : ℕ) (f : OwnFields) 
 too_long_last shared closing status size f a capacity before room is shows short sized long =
     true_unless (has_content a) (λ none.
     let first = first_short shared status (own_fields f) (own_short f (shows ∙ none) short) in
-    let last = subst (λ (n : ℕ). length (last_lines closing status n) ≤ 120) (sym (sized ∙ no_body a none)) (last_short closing status) in
+    let last = subst (λ (n : ℕ). length (last_lines closing status n) ≤ 120) (sym (sized ∙ no_body a none)) (last_short closing status 0 (omega arith)) in
     omega (arith, room, is, first, last, long))
 
 -- what holds, holds of an error

@@ -8,6 +8,7 @@ pub mod Lines
 pub mod Manners
 pub mod Outlines
 pub mod Passes
+pub mod ReadBack
 pub mod Replies
 pub mod Requests
 pub mod Targets

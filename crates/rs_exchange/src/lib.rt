@@ -23,7 +23,7 @@ pub use account::{Account, Accounts, Config};
 pub use answer::Answer;
 pub use asked::{Asked, read_request};
 pub use fixed::{closing_lines, fault_status, interim_lines, starved_lines};
-pub use laws::asked_laws;
+pub use laws::{asked_laws, read_back_laws};
 pub use manner::{MAX_REPLIES, Manner, manner_of};
 pub use refusal::{Methods, Refusal};
 pub use reply::{HEAD_ROOM, Written, head_room, write_answer};
