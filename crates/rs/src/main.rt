@@ -4,17 +4,16 @@
 
 mod entropy;
 mod rows;
-mod streams;
 mod words;
 
 use entropy::OsEntropy;
 use rows::{close_file, open_file};
 use rs_cli::{Command, Note, RowsFile, Status, WordFault, read_command, rows_file, run_here};
 use rs_face::{Keeper, NoFailKeeper, NoMemory};
+use rs_stream::{HeldSink, StdSink, StdSource};
 use std::alloc::Global;
 use std::io::Write;
 use std::process::ExitCode;
-use streams::{StdSink, StdSource};
 use words::read_words;
 
 fn main(rt: HostRuntime) -> ExitCode {
@@ -46,14 +45,16 @@ fn run_over_file(rt: &HostRuntime, read: Result<Command<'_>, WordFault>) -> Stat
     }
 }
 
-/// Does what was read over the standard streams, the system's random bytes and this keeper.
+/// Does what was read over the standard streams, the system's random bytes and this keeper. A reply is one write.
 fn run_over<K: Keeper>(
     rt: &HostRuntime,
     read: Result<Command<'_>, WordFault>,
     keeper: &mut K,
 ) -> Status {
     let mut source = StdSource::new(rt.stdin());
-    let mut sink = StdSink::new(rt.stdout());
+    let Ok(mut sink) = HeldSink::new(rt.alloc(), StdSink::new(rt.stdout())) else {
+        return Note::NoMemory.status();
+    };
     let mut entropy = OsEntropy::new(rt);
     run_here(
         rt.alloc(),
