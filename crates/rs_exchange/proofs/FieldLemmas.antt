@@ -252,12 +252,12 @@ unfolding stated has_two_lengths has_bad_length same_length
 sized_framed fs gs f n a s b =
     let uncoded = none_among is_coding fs gs f a.uncoded s.uncoded b.uncoded in
     let found : find is_length_field (fs ++ f ∷ gs) ≡ Some f =
-        find-append is_length_field fs (f ∷ gs) ∙ rw (not_found fs a.unsized, s.sized) refl in
+    find-append is_length_field fs (f ∷ gs) ∙ rw (not_found fs a.unsized, s.sized) refl in
     let same : same_length f.value f.value ≡ true = rw s.length_is (eq-eqb _ _ refl) in
     let one = none_among (differs_from f) fs gs f (without_lengths (λ g. not (same_length f.value g.value)) fs a.unsized) (rw (s.sized, same) refl)
-        (without_lengths (λ g. not (same_length f.value g.value)) gs b.unsized) in
+    (without_lengths (λ g. not (same_length f.value g.value)) gs b.unsized) in
     let good = none_among (λ g. is_length_field g && not (is_length g.value)) fs gs f (without_lengths (λ g. not (is_length g.value)) fs a.unsized)
-        (rw (s.sized, s.length_is) refl) (without_lengths (λ g. not (is_length g.value)) gs b.unsized) in
+    (rw (s.sized, s.length_is) refl) (without_lengths (λ g. not (is_length g.value)) gs b.unsized) in
     record {
       valid = list_all-map is_field line_for (fs ++ f ∷ gs)
           ∙ list_all-append (λ f. is_field (line_for f)) fs (f ∷ gs) ∙ and_from _ _ a.valid (and_from _ _ s.valid b.valid);
