@@ -35,7 +35,7 @@ class Connection:
         # This end of the input is kept too, so that what was left unread can be counted.
         self.unread, self.input = os.pipe()
         self.process = subprocess.Popen(
-            [program, "pipe", "alice", TOKEN, "*:rw"], stdin=self.unread, stdout=subprocess.PIPE, cwd=room
+            [program, "pipe", "alice", TOKEN, "*:rw"], stdin=self.unread, stdout=subprocess.PIPE, stderr=subprocess.DEVNULL, cwd=room
         )
         self.output = self.process.stdout.fileno()
         self.held = b""

@@ -2,8 +2,8 @@
 
 ghost use Rattle.std.specs.Prelude.{false, refl};
 
-use rs_face::{Sink, SinkFault, Source, SourceFault, write_all};
-use rs_stream::{StdSink, StdSource, SteadyRead, SteadyWrite};
+use rs_face::{MemSink, Sink, SinkFault, Source, SourceFault, write_all};
+use rs_stream::{HeldSink, StdSink, StdSource, SteadyRead, SteadyWrite};
 use std::io;
 use std::io::{Error, ErrorKind, Read, Write};
 use std::test::Fail;
@@ -76,7 +76,7 @@ impl SteadyWrite for Shaky {
     ghost steady = { λ _. refl };
 }
 
-fn shaky(rt: &HostRuntime, interruptions: u8, fails: bool) -> Shaky {
+fn make_shaky(rt: &HostRuntime, interruptions: u8, fails: bool) -> Shaky {
     Shaky {
         interruptions,
         fails,
@@ -99,10 +99,13 @@ fn a_slice_is_read_to_its_end(rt: HostRuntime) -> Result<(), Fail> {
 #[test]
 fn interrupted_reads_are_made_again(rt: HostRuntime) -> Result<(), Fail> {
     let mut room = [0; 3];
-    assert_eq!(rt; StdSource::new(shaky(&rt, 2, false)).read(&mut room), Ok(1));
+    assert_eq!(rt;
+        StdSource::new(make_shaky(&rt, 2, false)).read(&mut room),
+        Ok(1)
+    );
     assert_eq!(rt; room, [120, 0, 0]);
     assert_eq!(rt;
-        StdSource::new(shaky(&rt, 2, true)).read(&mut room),
+        StdSource::new(make_shaky(&rt, 2, true)).read(&mut room),
         Err(SourceFault::Failed)
     );
     Ok(())
@@ -110,18 +113,36 @@ fn interrupted_reads_are_made_again(rt: HostRuntime) -> Result<(), Fail> {
 
 #[test]
 fn short_writes_lose_nothing(rt: HostRuntime) -> Result<(), Fail> {
-    let mut sink = StdSink::new(shaky(&rt, 3, false));
+    let mut sink = StdSink::new(make_shaky(&rt, 3, false));
     write_all(&mut sink, b"all of it")?;
     let writer = sink.into_inner();
-    assert_eq!(rt; writer.moved.as_slice(), b"all of it");
+    assert_eq!(rt; writer.moved.as_slice(), b"all of it".as_slice());
     Ok(())
 }
 
 #[test]
 fn failed_writes_and_flushes_are_told(rt: HostRuntime) -> Result<(), Fail> {
-    let mut sink = StdSink::new(shaky(&rt, 1, true));
+    let mut sink = StdSink::new(make_shaky(&rt, 1, true));
     assert_eq!(rt; sink.write(b"a"), Err(SinkFault::Failed));
     assert_eq!(rt; sink.flush(), Err(SinkFault::Failed));
     assert_eq!(rt; sink.write(b""), Ok(0));
+    Ok(())
+}
+
+#[test]
+fn small_writes_are_held_until_a_flush(rt: HostRuntime) -> Result<(), Fail> {
+    let rt = &rt;
+    let alloc = rt.alloc();
+    let mut held = HeldSink::new(alloc, MemSink::new(Vec::new(alloc), Vec::new(alloc)))?;
+    write_all(&mut held, b"ab")?;
+    write_all(&mut held, b"cd")?;
+    assert_eq!(rt; held.into_inner().written(), b"".as_slice());
+    // The first of the calls below fails; what it was to take goes out with the next flush.
+    let mut held = HeldSink::new(alloc, MemSink::new(Vec::new(alloc), [1].to_vec(alloc)?))?;
+    write_all(&mut held, b"ab")?;
+    assert_eq!(rt; held.flush(), Err(SinkFault::Failed));
+    write_all(&mut held, b"cd")?;
+    held.flush()?;
+    assert_eq!(rt; held.into_inner().written(), b"abcd".as_slice());
     Ok(())
 }
