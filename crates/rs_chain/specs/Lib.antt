@@ -1,0 +1,9 @@
+pub mod Nodes
+pub mod Rings
+pub mod Climbs
+pub mod Walks
+pub mod Shown
+pub mod NodeItems
+pub mod Leaves
+pub mod Writes
+pub mod Rooms
