@@ -1,4 +1,5 @@
 pub mod Limits
+pub mod BytesHeld
 pub mod Names
 pub mod Kinds
 pub mod Tags

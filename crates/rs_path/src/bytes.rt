@@ -4,22 +4,34 @@ ghost use Rattle.std.specs.Prelude.{◌≡◌, IfOk};
 ghost use Rattle.std.specs.Cmp.{partial_equiv_from_equiv};
 ghost use Rattle.std.proofs.lemmas.Cmp.{nat_list_eq_equiv};
 ghost use Rattle.std.specs.Str.{bytes_eq};
+ghost use Rattle.rs_path.specs.BytesHeld.{bytes_held};
 
 use crate::no_memory::NoMemory;
 use std::marker::Model;
+use std::sync::Arc;
 
-/// Bytes that a value owns, as the body of a document. A contract sees them as their list.
+/// Bytes, as the body of a document. A contract sees them as their list.
+///
+/// They are one value's own, until [`Bytes::shared`] lets copies have one list in common, which goes with the last of them.
 #[derive(Debug, Drop)]
 pub struct Bytes {
-    list: Vec<u8>,
+    held: Held,
+}
+
+// Where the bytes are.
+#[derive(Debug, Drop)]
+enum Held {
+    Own(Vec<u8>),
+    Shared(Arc<Vec<u8>>),
 }
 
 impl Model for Bytes {
     ghost use Rattle.std.specs.Prelude.{List, ℕ};
+    ghost use Rattle.rs_path.specs.BytesHeld.{bytes_held};
 
     ghost Value = { List ℕ };
 
-    ghost view = { λ b. b.list.items };
+    ghost view = { λ b. bytes_held b.held };
 }
 
 impl Bytes {
@@ -27,23 +39,57 @@ impl Bytes {
     pub fn of(list: Vec<u8>) -> Bytes
         ensures bytes { result ≡ list.items }
     {
-        Bytes { list }
+        Bytes {
+            held: Held::Own(list),
+        }
+    }
+
+    /// The same bytes, shared from now on where there is memory for it, so that copies take none that grows with them.
+    pub fn shared(self) -> Bytes
+        ensures same { result ≡ self }
+    {
+        match self.held {
+            Held::Own(list) => Bytes { held: share(list) },
+            Held::Shared(list) => Bytes {
+                held: Held::Shared(list),
+            },
+        }
     }
 
     /// The bytes.
     pub fn as_slice(&self) -> &[u8]
         ensures bytes { result.now ≡ self.now }
     {
-        self.list.as_slice()
+        match &self.held {
+            Held::Own(list) => list.as_slice(),
+            Held::Shared(list) => list.as_slice(),
+        }
     }
 
-    /// Equal bytes, from the same allocator.
+    /// Equal bytes: of shared ones a further owner, which takes no memory, of others as many from the same allocator.
     pub fn copy(&self) -> Result<Bytes, NoMemory>
         ensures same { IfOk result (λ copied. copied ≡ self.now) }
     {
         Ok(Bytes {
-            list: self.list.clone()?,
+            held: match &self.held {
+                Held::Own(list) => Held::Own(list.clone()?),
+                Held::Shared(list) => Held::Shared(Arc::try_clone(list)?),
+            },
         })
+    }
+}
+
+// A list that several values may own, where it isn't empty and there is memory for that.
+fn share(list: Vec<u8>) -> Held
+    ensures same { bytes_held result ≡ list.items }
+{
+    if list.is_empty() {
+        return Held::Own(list);
+    }
+    let alloc = *list.allocator();
+    match Arc::new(alloc, list) {
+        Ok(list) => Held::Shared(list),
+        Err(failed) => Held::Own(failed.value),
     }
 }
 

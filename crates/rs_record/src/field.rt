@@ -107,7 +107,8 @@ pub(crate) fn read_body(
         return Err(RecordFault::Bad { place });
     }
     let (body, behind, rest) = read_bytes(behind, rest, size)?;
-    Ok((Bytes::of(Vec::from_slice(alloc, body)?), behind, rest))
+    let body = Bytes::of(Vec::from_slice(alloc, body)?).shared();
+    Ok((body, behind, rest))
 }
 
 /// Whether nothing is left; else the first surplus byte is at fault.
