@@ -1,5 +1,5 @@
 -- Histories that go on by revocations and grants of one token, and show what they showed.
-use Rattle.std.proofs.Common.{◌≡◌, ℕ, zero, suc, ◌+◌, ◌*◌, ◌<◌, ◌≤◌, true, cond, List, [], ◌∷◌, length, Option, Some, None, Vec, Global, refl, sym, ap, ◌∙◌, subst, ⊎_elim, arith, length-append}
+use Rattle.std.proofs.Common.{◌≡◌, ℕ, zero, suc, ◌+◌, ◌*◌, ◌<◌, ◌≤◌, true, cond, List, [], ◌∷◌, length, Option, Some, None, refl, sym, ap, ◌∙◌, subst, ⊎_elim, arith, length-append}
 use Rattle.std.specs.Prelude.{is_some, is_none}
 use Rattle.std.specs.Str.{bytes_eq}
 use Rattle.std.proofs.lemmas.Bool.{cases_Bool, cond-true, cond-false, true≢false}
@@ -14,7 +14,7 @@ use Rattle.rs_rules.specs.Tokens.{scopes_of, scopes_after}
 use Rattle.rs_rules.specs.Contents.{Contents, contents, contents_after}
 use Rattle.rs_rules.specs.Snapshots.{snapshot}
 use Rattle.rs_rules.specs.Lawful.{may_follow, IsLawful}
-use Rattle.rs_user.specs.declared.granted.Granted.{Granted}
+use Rattle.rs_user.specs.declared.granted.Grants.{Grants}
 use Rattle.rs_user.specs.declared.state.UserState.{UserState}
 use Rattle.rs_user.specs.Grants.{scopes_in}
 use Rattle.rs_user.specs.Standing.{StandsFor}
@@ -108,7 +108,7 @@ module _ {T R : Type 0} (tree_stands : T → Contents → Type 0) where
       record {
         shows = record {
           tree = shown;
-          scopes = λ token. ap (λ (g : Vec Granted Global). scopes_in token g.items) granted ∙ stands.shows.scopes token ∙ sym (on.given token);
+          scopes = λ token. ap (λ (g : Grants). scopes_in token g.list.items) granted ∙ stands.shows.scopes token ∙ sym (on.given token);
           len = omega (arith, count, stands.shows.len, on.cut, on.count);
         };
         lawful = on.lawful;
