@@ -82,8 +82,8 @@ impl<T: Tree> UserState<T> {
         Ok(())
     }
 
-    /// Adds a record that stands rightly, and that there is room for.
-    pub(crate) fn add(&mut self, what: Record) -> Result<(), NoMemory>
+    // Adds a record that stands rightly, and that there is room for.
+    fn add(&mut self, what: Record) -> Result<(), NoMemory>
         requires may { (h : History) × StandsFor T.stands self.old h × (may_be_next h what ≡ true) }
         ensures added { (h : History) → StandsFor T.stands self.old h → may_be_next h what ≡ true
             → OnOk result (StandsFor T.stands self.new (with_entry h (record { who = 0; what = what }))) }
