@@ -14,8 +14,6 @@ use Rattle.rs_grant.specs.Consents.{consent_reading}
 use Rattle.rs_grant.specs.Pages.{page_text}
 use Rattle.rs_grant.specs.Passwords.{password_fits}
 use Rattle.rs_grant.specs.Redirects.{redirect_text}
-use Rattle.rs_rules.specs.declared.reply.Reply.{Reply}
-use Rattle.rs_rules.specs.declared.reply.Reply.TheVariants.{Granted}
 use Rattle.rs_scope.specs.declared.method.Method.TheVariants.{Get, Head, Put, Delete}
 use Rattle.rs_exchange.specs.declared.account.Account.{Account}
 use Rattle.rs_exchange.specs.declared.answer.Answer.{Answer}
@@ -50,11 +48,6 @@ Refuses other asked = asked ≡ Now (fault_answer other)
 -- that no token was granted, and not for the user's choice
 abbrev pub not_granted : Ask → Answer
 not_granted ask = sent_back ask (told.Word ServerError)
-
--- what a desk's reply to the grant of this token comes to
-abbrev pub granted_answer : Ask → List ℕ → Reply → Answer
-granted_answer ask token Granted = sent_back ask (told.Token token)
-granted_answer ask token other = not_granted ask
 
 -- ---- what is asked
 

@@ -1,3 +1,4 @@
+pub mod Drawing
 pub mod Due
 pub mod Ends
 pub mod Inputs

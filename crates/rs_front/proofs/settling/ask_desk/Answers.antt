@@ -1,6 +1,6 @@
 use Rattle.std.proofs.Common.{◌<◌}
 use Rattle.rs_front.proofs.DecideLemmas.{with_history, users_with, all_stand, turned_ok, turned_err}
-use Rattle.rs_front.proofs.settling.ask.Goals as goal
+use Rattle.rs_front.proofs.settling.ask_desk.Goals as goal
 
 pub returns-in-Ok-clause-decides : goal.returns-in-Ok-clause-decides
 unfolding users_with
