@@ -1,3 +1,5 @@
+use Rattle.rs_cli.specs.Commands.{setting_in}
+use Rattle.rs_cli.specs.Pipes.{config_of}
 use Rattle.rs_cli.proofs.PipeLemmas.{pipe_ends}
 use Rattle.rs_cli.proofs.serving.pipe.Goals as goal
 
@@ -5,7 +7,8 @@ pub returns-in-Ok-open_granted : goal.returns-in-Ok-open_granted
 returns-in-Ok-open_granted g c =
     let serving = c.args.serving in
     record {
-      ends = pipe_ends g.T.Tree.stands serving.user.now serving.token serving.scopes serving.quota _ _ _ _ _ _ _ c.in-Ok-open_granted.state _ _ _ c.serve.result
+      ends = rw c.in-Ok.ensures.same (pipe_ends g.T.Tree.stands (config_of serving.user.now (setting_in serving)) serving.token serving.scopes serving.quota _ _ _ _ _ _ _
+          c.in-Ok-open_granted.state _ _ _ _ c.serve.result
           c.open_granted.ensures.later c.in-Ok-open_granted.ensures.opened
-          (λ h ready. c.serve.ensures.serves serving.user.now h c.in-Ok.ensures.account ready);
+          (λ h ready. rw c.in-Ok.ensures.same (c.serve.ensures.serves h ready)));
     }
