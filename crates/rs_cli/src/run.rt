@@ -13,8 +13,8 @@ use crate::printing::print_line;
 use crate::serving::pipe;
 use crate::status::Status;
 use crate::texts::{help_text, version_text};
+use rs_chain::ChainTree;
 use rs_face::{Entropy, Keeper, Sink, Source};
-use rs_plain::PlainTree;
 use std::alloc::Global;
 
 /// Does what words were read as by `read_command`, over these objects of the outside.
@@ -96,12 +96,12 @@ fn run_command<S: Source, W: Sink, K: Keeper, E: Entropy>(
 {
     match command {
         Command::Pipe { serving } => {
-            pipe::<PlainTree, S, W, K, E>(alloc, serving, source, sink, keeper, entropy)
+            pipe::<ChainTree, S, W, K, E>(alloc, serving, source, sink, keeper, entropy)
         }
         Command::Grant { scopes } => {
-            grant::<PlainTree, K, E, W>(alloc, scopes, keeper, entropy, sink)
+            grant::<ChainTree, K, E, W>(alloc, scopes, keeper, entropy, sink)
         }
-        Command::Revoke { token } => revoke::<PlainTree, K, W>(alloc, token, keeper, sink),
+        Command::Revoke { token } => revoke::<ChainTree, K, W>(alloc, token, keeper, sink),
         Command::Help => print_line(sink, help_text()),
         Command::Version => print_line(sink, version_text()),
     }
