@@ -12,7 +12,7 @@ use crate::chunk::size_of;
 use crate::fault::{WireFault, WireWhy};
 use crate::framing::Framing;
 use crate::limits::{MAX_CHUNK_LINE, MAX_TRAILER};
-use crate::search::{Search, Spot, window};
+use crate::search::{Search, Spot, line_length, window};
 use rs_path::{MAX_BODY, NoMemory};
 use std::alloc::Global;
 
@@ -80,12 +80,13 @@ pub fn first_line(bytes: &[u8], sought: usize) -> Option<usize>
     ensures found { sought ≤ length bytes.now → first_line (take sought bytes.now) ≡ None
         → result ≡ first_line bytes.now }
 {
-    for i in sought..bytes.len() {
-        if bytes[i] == b'\n' {
-            return Some(i + 1);
-        }
+    if sought > bytes.len() {
+        return None;
     }
-    None
+    match line_length(&bytes[sought..]) {
+        Some(count) => Some(sought + count),
+        None => None,
+    }
 }
 
 /// Whether CR LF stands at the front.
