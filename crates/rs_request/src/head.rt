@@ -16,6 +16,7 @@ use crate::framing::{Framing, ends_connection, expects_interim, head_framing};
 use crate::limits::{MAX_FIELDS, MAX_HEAD};
 use crate::message::RequestMessage;
 use crate::search::{Search, Spot, window};
+use crate::text_part::TextPart;
 use httparse::Status;
 use httparse::spans::{EMPTY_HEADER_SPAN, HeaderSpan, RequestSpans, parse_request};
 use rs_path::{Bytes, NoMemory};
@@ -47,15 +48,16 @@ pub fn bytes_of(alloc: Global, text: &[u8]) -> Result<Bytes, NoMemory>
     Ok(Bytes::of(list))
 }
 
-/// The fields at these places of a text, each value without the blanks round it.
+/// The fields at these places of a text, each value without the blanks round it. The text is copied once.
 pub fn fields_at(alloc: Global, text: &[u8], spans: &[HeaderSpan]) -> Result<Fields, NoMemory>
     requires { All (IsHeaderWithin (length text.now)) spans.now }
     ensures { IfOk result (λ fields. fields ≡ pair_fields (map (header_bytes text.now) spans.now)) }
 {
-    let mut fields = Fields::new(alloc);
+    let shared = bytes_of(alloc, text)?.shared();
+    let mut fields = Fields::with_room(alloc, spans.len())?;
     for span in spans {
-        let name = bytes_of(alloc, span.name.of(text))?;
-        let value = bytes_of(alloc, span.value.of(text))?;
+        let name = TextPart::at(&shared, span.name)?;
+        let value = TextPart::at(&shared, span.value)?;
         fields.push(Field { name, value })?;
     }
     Ok(fields)
