@@ -79,6 +79,24 @@ impl<S: Alter + Drop> SqlKeeper<S> {
         }
     }
 
+    /// How many statements were refused so far for another cause than memory. A number that would pass 2^64 - 1 stays there.
+    pub fn faults(&self) -> u64
+        ensures faults { result ≡ self.now.faults }
+    {
+        self.faults
+    }
+
+    /// The same keeper, whose count of faults goes on from this number.
+    pub fn with_faults(self, faults: u64) -> SqlKeeper<S>
+        ensures connection { result.connection ≡ self.connection }
+        ensures rows { result.rows ≡ self.rows }
+        ensures faults { result.faults ≡ faults }
+    {
+        let mut keeper = self;
+        keeper.faults = faults;
+        keeper
+    }
+
     /// The connection, to close it.
     pub fn into_connection(self) -> Connection<S>
         ensures same { result ≡ self.connection }
