@@ -1,10 +1,9 @@
-mod FillLemmas
 mod FrontLemmas
 mod GrantLemmas
 mod MayLemmas
 mod SpellingLemmas
 mod OpeningLemmas
+mod RegrantLemmas
 mod StandingLemmas
 mod StepLemmas
-mod TopLemmas
 mod TurnLemmas

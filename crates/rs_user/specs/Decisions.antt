@@ -1,5 +1,5 @@
 -- What is decided on a storage request.
-use Rattle.std.specs.Prelude.{◌≡◌, ℕ, ◌+◌, None}
+use Rattle.std.specs.Prelude.{◌≡◌, ◌+◌, None}
 use Rattle.rs_rules.specs.declared.call.Call.{Call}
 use Rattle.rs_rules.specs.declared.reply.Reply.{Reply}
 use Rattle.rs_rules.specs.declared.reply.Reply.TheVariants.{Stored, Removed}

@@ -3,4 +3,4 @@ pub mod Standing
 pub mod Decisions
 pub mod Turns
 pub mod Openings
-pub mod FullTests
+pub mod Regrants

@@ -6,13 +6,13 @@ ghost use Rattle.rs_rules.specs.Snapshots.{Snapshot};
 ghost use Rattle.rs_rules.specs.Answers.{first_of, early_steps, place_steps, record_of_call};
 ghost use Rattle.rs_user.specs.Grants.{scopes_in, token_refusal};
 
-use crate::granted::{Granted, scopes_in};
+use crate::granted::Grants;
 use rs_rules::{Call, Pass, Reply};
 use rs_scope::{Token, free_read, reaches};
 
 /// The reply to a request whose token isn't enough (RFC 6750, section 3.1), or None where it is.
-pub(crate) fn refused_access(granted: &[Granted], call: &Call) -> Option<Reply>
-    ensures access { (s : Snapshot) → ((token : List ℕ) → scopes_in token granted.now ≡ s.scopes token)
+pub(crate) fn refused_access(granted: &Grants, call: &Call) -> Option<Reply>
+    ensures access { (s : Snapshot) → ((token : List ℕ) → scopes_in token granted.now.list.items ≡ s.scopes token)
         → first_of (early_steps s call.now) ≡ option_or result (first_of (place_steps s call.now)) }
     ensures plain { IfSome result (λ reply. record_of_call call.now reply ≡ None) }
 {
@@ -26,10 +26,10 @@ pub(crate) fn refused_access(granted: &[Granted], call: &Call) -> Option<Reply>
     }
 }
 
-fn refused_token(granted: &[Granted], token: &Token, call: &Call) -> Option<Reply>
-    ensures reply { result ≡ token_refusal (scopes_in token.now granted.now) call.now.method call.now.path }
+fn refused_token(granted: &Grants, token: &Token, call: &Call) -> Option<Reply>
+    ensures reply { result ≡ token_refusal (scopes_in token.now granted.now.list.items) call.now.method call.now.path }
 {
-    match scopes_in(granted, token) {
+    match granted.scopes_in(token) {
         None => Some(Reply::BadToken),
         Some(scopes) => {
             if reaches(scopes, call.method, &call.path) {

@@ -1,6 +1,6 @@
 //! What a record does to a state.
 
-ghost use Rattle.std.specs.Prelude.{◌≡◌, ◌+◌, ◌<◌, ℕ, List, Option, [], ◌∷◌, ◌++◌, true, vec_len, vec_capacity};
+ghost use Rattle.std.specs.Prelude.{◌≡◌, ◌+◌, ◌<◌, ℕ, List, Option, true, vec_len, vec_capacity};
 ghost use Rattle.rs_path.specs.Paths.{Path as PathValue};
 ghost use Rattle.rs_scope.specs.declared.scope.Scope.{Scope};
 ghost use Rattle.rs_record.specs.declared.records.Record.TheVariants.{Put as PutRecord, Remove as RemoveRecord, Grant as GrantRecord, Revoke as RevokeRecord};
@@ -10,7 +10,7 @@ ghost use Rattle.rs_rules.specs.Snapshots.{snapshot};
 ghost use Rattle.rs_rules.specs.Lawful.{may_follow};
 ghost use Rattle.rs_user.specs.Standing.{StandsFor};
 
-use crate::granted::{Granted, withdraw};
+use crate::granted::Granted;
 use crate::state::UserState;
 use rs_path::Path;
 use rs_rules::{Tree, lawful_laws, step_laws, version_bounds};
@@ -55,8 +55,9 @@ impl<T: Tree> UserState<T> {
 
     /// Grants scopes to a token; there is room for one grant more.
     pub(crate) fn grant(&mut self, granted: Granted)
-        requires fits { (h : History) × StandsFor T.stands self.old h × (len h < max_len) }
-        requires room { vec_len self.old.granted < vec_capacity self.old.granted }
+        requires fits { (h : History) × StandsFor T.stands self.old h
+            × (may_follow (snapshot h) (GrantRecord granted.token granted.scopes) ≡ true) × (len h < max_len) }
+        requires room { vec_len self.old.granted.list < vec_capacity self.old.granted.list }
         ensures granted { (h : History) (who : ℕ) → StandsFor T.stands self.old h
             → may_follow (snapshot h) (GrantRecord granted.token granted.scopes) ≡ true → len h < max_len
             → StandsFor T.stands self.new (with_entry h (record { who = who; what = GrantRecord granted.token granted.scopes })) }
@@ -64,7 +65,7 @@ impl<T: Tree> UserState<T> {
     {
         lawful_laws();
         step_laws();
-        add(&mut self.granted, granted);
+        self.granted.add(granted);
         self.len += 1;
         self.rows += 1;
     }
@@ -79,17 +80,8 @@ impl<T: Tree> UserState<T> {
     {
         lawful_laws();
         step_laws();
-        withdraw(&mut self.granted, token);
+        self.granted.withdraw(token);
         self.len += 1;
         self.rows += 1;
     }
-}
-
-// Appends a grant where there is room for it.
-fn add(list: &mut Vec<Granted>, granted: Granted)
-    requires room { vec_len list.old < vec_capacity list.old }
-    ensures items { list.new.items ≡ list.old.items ++ granted ∷ [] }
-{
-    let added = list.push(granted);
-    prove!(added.is_ok());
 }

@@ -32,7 +32,7 @@ impl<T: Tree> UserState<T> {
         requires room { (s : Snapshot) × Shows T.stands self.now s × (is_put call.now.method ≡ true → live_in s.contents.docs + length call.now.body < 2 ^ 64) }
         ensures decided { (s : Snapshot) → Shows T.stands self.now s → IfOk result (DecisionAgrees s call.now (answer_call_in s self.now.quota call.now)) }
     {
-        if let Some(reply) = refused_access(self.granted.as_slice(), call) {
+        if let Some(reply) = refused_access(&self.granted, call) {
             return Ok(Decision::Answer(reply));
         }
         if let Some(reply) = refused_place(&self.tree, call)? {

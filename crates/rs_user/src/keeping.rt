@@ -37,7 +37,7 @@ impl<T: Tree> UserState<T> {
         lawful_laws();
         row_laws();
         look_at(call);
-        let mut row = Vec::new(*self.granted.allocator());
+        let mut row = Vec::new(self.granted.allocator());
         encode_put(
             &call.path,
             &call.kind,
@@ -77,7 +77,7 @@ impl<T: Tree> UserState<T> {
         ensures count { K.row_count keeper.new + self.old.rows ≡ K.row_count keeper.old + self.new.rows }
         ensures quota { self.new.quota ≡ self.old.quota }
     {
-        let mut row = Vec::new(*self.granted.allocator());
+        let mut row = Vec::new(self.granted.allocator());
         let record = Record::Remove {
             path: call.path.copy()?,
             writer: writer_of(&call.pass),
@@ -103,14 +103,14 @@ impl<T: Tree> UserState<T> {
         token: &Token,
         scopes: &Scopes,
     ) -> Result<Turn, DeskFault>
-        requires may { (h : History) × StandsFor T.stands self.old h × (len h < max_len) }
+        requires may { (h : History) × StandsFor T.stands self.old h × (may_follow (snapshot h) (GrantRecord token.now scopes.now) ≡ true) × (len h < max_len) }
         ensures keeps { (h : History) (who : ℕ) → StandsFor T.stands self.old h → may_follow (snapshot h) (GrantRecord token.now scopes.now) ≡ true → len h < max_len
             → Keeps T.stands self.new h who (GrantRecord token.now scopes.now) GrantedReply result (K.rows keeper.old) (K.rows keeper.new) (K.faults keeper.old) (K.faults keeper.new) }
         ensures later { K.faults keeper.old ≤ K.faults keeper.new }
         ensures count { K.row_count keeper.new + self.old.rows ≡ K.row_count keeper.old + self.new.rows }
         ensures quota { self.new.quota ≡ self.old.quota }
     {
-        let mut row = Vec::new(*self.granted.allocator());
+        let mut row = Vec::new(self.granted.allocator());
         let record = Record::Grant {
             token: *token,
             scopes: scopes.copy()?,
@@ -120,7 +120,7 @@ impl<T: Tree> UserState<T> {
             token: *token,
             scopes: scopes.copy()?,
         };
-        self.granted.reserve(1)?;
+        self.granted.reserve()?;
         let front = self.len;
         match keeper.append(row.as_slice()) {
             Ok(()) => {
@@ -147,7 +147,7 @@ impl<T: Tree> UserState<T> {
         ensures count { K.row_count keeper.new + self.old.rows ≡ K.row_count keeper.old + self.new.rows }
         ensures quota { self.new.quota ≡ self.old.quota }
     {
-        let mut row = Vec::new(*self.granted.allocator());
+        let mut row = Vec::new(self.granted.allocator());
         encode(&Record::Revoke { token: *token }, &mut row)?;
         let front = self.len;
         match keeper.append(row.as_slice()) {

@@ -6,14 +6,13 @@ mod applying;
 mod conditions;
 mod decision;
 mod fronts;
-#[cfg(test)]
-mod full_tests;
 mod granted;
 mod keeping;
 mod laws;
 mod limits;
 mod opening;
 mod place;
+mod regrants;
 mod solo_desk;
 mod state;
 mod turning;

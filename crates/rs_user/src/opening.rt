@@ -9,7 +9,7 @@ ghost use Rattle.rs_rules.specs.Lawful.{may_follow, writer_may};
 ghost use Rattle.rs_user.specs.Standing.{StandsFor};
 ghost use Rattle.rs_user.specs.Openings.{may_be_next, Opens, TakesRow, TakesRecord};
 
-use crate::granted::{Granted, scopes_in};
+use crate::granted::Granted;
 use crate::state::UserState;
 use rs_face::{KeepFault, Keeper};
 use rs_path::{MAX_BODY, MAX_PLAIN_BODY, NoMemory, Path};
@@ -61,7 +61,7 @@ impl<T: Tree> UserState<T> {
         ensures counted { OnOk result (self.new.rows ≡ self.old.rows + 1) }
         ensures quota { self.new.quota ≡ self.old.quota }
     {
-        match decode(*self.granted.allocator(), row) {
+        match decode(self.granted.allocator(), row) {
             Ok(what) => self.take(index, what),
             Err(RecordFault::Bad { place }) => Err(OpenFault::BadRow { index, place }),
             Err(RecordFault::NoMemory) => Err(OpenFault::NoMemory),
@@ -82,8 +82,8 @@ impl<T: Tree> UserState<T> {
         Ok(())
     }
 
-    /// Adds a record that stands rightly, and that there is room for.
-    pub(crate) fn add(&mut self, what: Record) -> Result<(), NoMemory>
+    // Adds a record that stands rightly, and that there is room for.
+    fn add(&mut self, what: Record) -> Result<(), NoMemory>
         requires may { (h : History) × StandsFor T.stands self.old h × (may_be_next h what ≡ true) }
         ensures added { (h : History) → StandsFor T.stands self.old h → may_be_next h what ≡ true
             → OnOk result (StandsFor T.stands self.new (with_entry h (record { who = 0; what = what }))) }
@@ -103,7 +103,7 @@ impl<T: Tree> UserState<T> {
             }
             Record::Remove { path, .. } => self.remove(&path),
             Record::Grant { token, scopes } => {
-                self.granted.reserve(1)?;
+                self.granted.reserve()?;
                 self.grant(Granted { token, scopes });
             }
             Record::Revoke { token } => self.revoke(&token),
@@ -140,8 +140,8 @@ impl<T: Tree> UserState<T> {
             Record::Remove { path, writer } => {
                 self.tree.find(path).is_some() && self.writer_may(writer, Method::Delete, path)
             }
-            Record::Grant { token, .. } => scopes_in(self.granted.as_slice(), token).is_none(),
-            Record::Revoke { token } => scopes_in(self.granted.as_slice(), token).is_some(),
+            Record::Grant { token, .. } => self.granted.scopes_in(token).is_none(),
+            Record::Revoke { token } => self.granted.scopes_in(token).is_some(),
         }
     }
 
@@ -151,7 +151,7 @@ impl<T: Tree> UserState<T> {
     {
         match writer {
             None => true,
-            Some(token) => match scopes_in(self.granted.as_slice(), token) {
+            Some(token) => match self.granted.scopes_in(token) {
                 None => false,
                 Some(scopes) => reaches(scopes, method, path),
             },

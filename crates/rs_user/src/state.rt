@@ -5,7 +5,7 @@ ghost use Rattle.rs_rules.specs.Histories.{History, len, start, empty_base};
 ghost use Rattle.rs_rules.specs.Tokens.{scopes_of};
 ghost use Rattle.rs_user.specs.Standing.{StandsFor};
 
-use crate::granted::{Granted, scopes_in};
+use crate::granted::Grants;
 use rs_path::NoMemory;
 use rs_rules::Tree;
 use rs_scope::Token;
@@ -17,7 +17,7 @@ use std::alloc::Global;
 #[derive(Drop)]
 pub struct UserState<T: Tree> {
     pub(crate) tree: T,
-    pub(crate) granted: Vec<Granted>,
+    pub(crate) granted: Grants,
     pub(crate) len: u64,
     pub(crate) rows: u64,
     pub(crate) cut: u64,
@@ -32,7 +32,7 @@ impl<T: Tree> UserState<T> {
     {
         Ok(UserState {
             tree: T::new(alloc)?,
-            granted: Vec::new(alloc),
+            granted: Grants::new(alloc),
             len: 0,
             rows: 0,
             cut: 0,
@@ -44,7 +44,7 @@ impl<T: Tree> UserState<T> {
     pub fn granted(&self, token: &Token) -> bool
         ensures granted { (h : History) → StandsFor T.stands self.now h → result ≡ is_some (scopes_of h token.now) }
     {
-        scopes_in(self.granted.as_slice(), token).is_some()
+        self.granted.scopes_in(token).is_some()
     }
 
     /// The number of records, those that were given up included. It takes no memory.

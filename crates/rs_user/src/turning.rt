@@ -8,7 +8,6 @@ ghost use Rattle.rs_user.specs.Standing.{StandsFor};
 ghost use Rattle.rs_user.specs.Turns.{StateTurned};
 
 use crate::decision::Decision;
-use crate::granted::scopes_in;
 use crate::state::UserState;
 use rs_face::Keeper;
 use rs_rules::{
@@ -87,7 +86,7 @@ impl<T: Tree> UserState<T> {
         if self.len >= MAX_LEN {
             return Ok(self.answered(Reply::RecordsFull));
         }
-        if scopes_in(self.granted.as_slice(), token).is_some() {
+        if self.granted.scopes_in(token).is_some() {
             return Ok(self.answered(Reply::TokenTaken));
         }
         self.keep_grant(keeper, token, scopes)
@@ -102,7 +101,7 @@ impl<T: Tree> UserState<T> {
         ensures count { K.row_count keeper.new ≡ self.new.rows }
         ensures quota { self.new.quota ≡ self.old.quota }
     {
-        if scopes_in(self.granted.as_slice(), token).is_none() {
+        if self.granted.scopes_in(token).is_none() {
             return Ok(self.answered(Reply::NotGranted));
         }
         if self.len >= MAX_LEN {

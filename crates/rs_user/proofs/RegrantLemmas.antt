@@ -1,5 +1,5 @@
 -- Histories that go on by revocations and grants of one token, and show what they showed.
-use Rattle.std.proofs.Common.{◌≡◌, ℕ, zero, suc, ◌+◌, ◌*◌, ◌<◌, ◌≤◌, true, cond, List, [], ◌∷◌, length, Option, Some, None, Vec, Global, refl, sym, ap, ◌∙◌, subst, ⊎_elim, arith, length-append}
+use Rattle.std.proofs.Common.{◌≡◌, ℕ, zero, suc, ◌+◌, ◌*◌, ◌<◌, ◌≤◌, true, cond, List, [], ◌∷◌, ◌++◌, length, Option, Some, None, refl, sym, ap, ◌∙◌, subst, ⊎_elim, arith, length-append, append-nil, append_assoc}
 use Rattle.std.specs.Prelude.{is_some, is_none}
 use Rattle.std.specs.Str.{bytes_eq}
 use Rattle.std.proofs.lemmas.Bool.{cases_Bool, cond-true, cond-false, true≢false}
@@ -9,14 +9,15 @@ use Rattle.rs_scope.specs.declared.scope.Scope.{Scope}
 use Rattle.rs_record.specs.declared.records.Record.TheVariants.{Grant, Revoke}
 use Rattle.rs_record.specs.declared.records.Record.{Record}
 use Rattle.rs_rules.specs.Limits.{max_len}
-use Rattle.rs_rules.specs.Histories.{History, len, with_entry}
+use Rattle.rs_rules.specs.Histories.{History, len, with_entry, with_entries}
 use Rattle.rs_rules.specs.Tokens.{scopes_of, scopes_after}
 use Rattle.rs_rules.specs.Contents.{Contents, contents, contents_after}
 use Rattle.rs_rules.specs.Snapshots.{snapshot}
 use Rattle.rs_rules.specs.Lawful.{may_follow, IsLawful}
-use Rattle.rs_user.specs.declared.granted.Granted.{Granted}
+use Rattle.rs_user.specs.declared.granted.Grants.{Grants}
 use Rattle.rs_user.specs.declared.state.UserState.{UserState}
 use Rattle.rs_user.specs.Grants.{scopes_in}
+use Rattle.rs_user.specs.Regrants.{regrants}
 use Rattle.rs_user.specs.Standing.{StandsFor}
 use Rattle.rs_user.proofs.StandingLemmas.{contents_granted, contents_revoked}
 
@@ -45,12 +46,20 @@ back h token other scopes given =
     (λ clear. cond-false (bytes_eq token other) (Some scopes) inner clear ∙ cond-false (bytes_eq token other) None (scopes_of h other) clear)
     (cases_Bool (bytes_eq token other))
 
+none_more : (h : History) → with_entries h [] ≡ h
+none_more h = ap (λ es. record { base = h.base; entries = es }) (append-nil h.entries)
+
+two_more : (h : History) (a b : LogEntry Record) (es : List (LogEntry Record)) → with_entries h (a ∷ b ∷ es) ≡ with_entries (with_entry (with_entry h a) b) es
+two_more h a b es =
+    ap (λ all. record { base = h.base; entries = all })
+    (sym (append_assoc (h.entries ++ a ∷ []) (b ∷ []) es ∙ append_assoc h.entries (a ∷ []) (b ∷ es)))
+
 module _ (step_contents : (h : History) (e : LogEntry Record) → contents (with_entry h e) ≡ contents_after (len h + 1) e.what (contents h))
     (step_scopes : (h : History) (e : LogEntry Record) (token : List ℕ) → scopes_of (with_entry h e) token ≡ scopes_after token (len h + 1) e.what (scopes_of h token))
     (step_lawful : (h : History) (e : LogEntry Record) → IsLawful h → may_follow (snapshot h) e.what ≡ true → len h < max_len → IsLawful (with_entry h e)) where
   -- one revocation and one grant
   pair : (h : History) (token : List ℕ) (scopes : List Scope) → IsLawful h → scopes_of h token ≡ Some scopes → len h + 2 ≤ max_len
-      → (later : History) × GoesOn h later 2
+      → GoesOn h (with_entry (with_entry h (record { who = 0; what = Revoke token })) (record { who = 0; what = Grant token scopes })) 2
   pair h token scopes lawful given room =
       let revoked : LogEntry Record = record { who = 0; what = Revoke token } in
       let granted : LogEntry Record = record { who = 0; what = Grant token scopes } in
@@ -60,43 +69,41 @@ module _ (step_contents : (h : History) (e : LogEntry Record) → contents (with
       let itself : bytes_eq token token ≡ true = (bytes_eq-Decides token token).1 refl in
       let none : scopes_of without token ≡ None = step_scopes h revoked token ∙ cond-true (bytes_eq token token) None (scopes_of h token) itself in
       let first : IsLawful without = step_lawful h revoked lawful (ap is_some given) (omega (arith, room)) in
-      let both : IsLawful (with_entry without granted) = step_lawful without granted first (ap is_none none) (omega (arith, room, one)) in (
-        with_entry without granted,
-        record {
-          shown = step_contents without granted ∙ contents_granted (len without + 1) without token scopes ∙ step_contents h revoked ∙ contents_revoked (len h + 1) h token;
-          given = λ other. step_scopes without granted other
-              ∙ ap (cond (bytes_eq token other) (Some scopes)) (step_scopes h revoked other) ∙ back h token other scopes given;
-          lawful = both;
-          cut = refl;
-          count = omega (arith, one, two);
-        },
-      )
+      record {
+        shown = step_contents without granted ∙ contents_granted (len without + 1) without token scopes ∙ step_contents h revoked ∙ contents_revoked (len h + 1) h token;
+        given = λ other. step_scopes without granted other
+            ∙ ap (cond (bytes_eq token other) (Some scopes)) (step_scopes h revoked other) ∙ back h token other scopes given;
+        lawful = step_lawful without granted first (ap is_none none) (omega (arith, room, one));
+        cut = refl;
+        count = omega (arith, one, two);
+      }
 
   -- so many revocations and grants in turn
   pub pairs : (n : ℕ) (h : History) (token : List ℕ) (scopes : List Scope) → IsLawful h → scopes_of h token ≡ Some scopes → len h + 2 * n ≤ max_len
-      → (later : History) × GoesOn h later (2 * n)
-  pairs zero h token scopes lawful given room = (
-    h,
-    record {
-      shown = refl;
-      given = λ other. refl;
-      lawful = lawful;
-      cut = refl;
-      count = omega arith;
-    },
-  )
+      → GoesOn h (with_entries h (regrants token scopes n)) (2 * n)
+  pairs zero h token scopes lawful given room =
+      subst (λ later. GoesOn h later 0) (sym (none_more h))
+      (record {
+        shown = refl;
+        given = λ other. refl;
+        lawful = lawful;
+        cut = refl;
+        count = omega arith;
+      })
   pairs (suc n) h token scopes lawful given room =
+      let revoked : LogEntry Record = record { who = 0; what = Revoke token } in
+      let granted : LogEntry Record = record { who = 0; what = Grant token scopes } in
+      let later = with_entry (with_entry h revoked) granted in
       let next = pair h token scopes lawful given (omega (arith, room)) in
-      let rest = pairs n next.0 token scopes next.1.lawful (next.1.given token ∙ given) (omega (arith, room, next.1.cut, next.1.count)) in (
-        rest.0,
-        record {
-          shown = rest.1.shown ∙ next.1.shown;
-          given = λ other. rest.1.given other ∙ next.1.given other;
-          lawful = rest.1.lawful;
-          cut = rest.1.cut ∙ next.1.cut;
-          count = omega (arith, rest.1.count, next.1.count);
-        },
-      )
+      let rest = pairs n later token scopes next.lawful (next.given token ∙ given) (omega (arith, room, next.cut, next.count)) in
+      subst (λ last. GoesOn h last (2 * suc n)) (sym (two_more h revoked granted (regrants token scopes n)))
+      (record {
+        shown = rest.shown ∙ next.shown;
+        given = λ other. rest.given other ∙ next.given other;
+        lawful = rest.lawful;
+        cut = rest.cut ∙ next.cut;
+        count = omega (arith, rest.count, next.count);
+      })
 
 module _ {T R : Type 0} (tree_stands : T → Contents → Type 0) where
   -- a state with the same tree and grants, and so many more records
@@ -108,7 +115,7 @@ module _ {T R : Type 0} (tree_stands : T → Contents → Type 0) where
       record {
         shows = record {
           tree = shown;
-          scopes = λ token. ap (λ (g : Vec Granted Global). scopes_in token g.items) granted ∙ stands.shows.scopes token ∙ sym (on.given token);
+          scopes = λ token. ap (λ (g : Grants). scopes_in token g.list.items) granted ∙ stands.shows.scopes token ∙ sym (on.given token);
           len = omega (arith, count, stands.shows.len, on.cut, on.count);
         };
         lawful = on.lawful;
