@@ -13,7 +13,7 @@ use Rattle.rs_rules.specs.Histories.{History}
 use Rattle.rs_rules.specs.Tokens.{scopes_of}
 use Rattle.rs_rules.specs.Answers.{answer}
 use Rattle.rs_user.specs.Openings.{opening}
-use Rattle.rs_exchange.specs.declared.account.Account.{Account}
+use Rattle.rs_exchange.specs.declared.account.Config.{Config}
 use Rattle.rs_front.specs.declared.serve.End.{End}
 use Rattle.rs_front.specs.declared.serve.End.TheVariants as end
 use Rattle.rs_front.specs.Due.{Users}
@@ -25,12 +25,12 @@ use Rattle.rs_cli.specs.declared.note.Note.TheVariants.{Limit, Message}
 use Rattle.rs_cli.specs.declared.request_fault.RequestFault.{RequestFault}
 use Rattle.rs_cli.specs.declared.request_fault.RequestFault.TheVariants as asked
 use Rattle.rs_cli.specs.Causes.{note_of_opening, note_of_request, note_of_printing, note_of_end}
-use Rattle.rs_cli.specs.Commands.{AsksFor, default_quota}
+use Rattle.rs_cli.specs.Commands.{AsksFor, default_quota, setting_in}
 use Rattle.rs_cli.specs.Forms.{wrong_word}
 use Rattle.rs_face.specs.Courses.{Course, HasFailed}
 use Rattle.rs_cli.specs.Outsides.{Outside, IsFaultless}
 use Rattle.rs_cli.specs.Grants.{SpelledBy, OpeningFails, NotOpened, RequestFails, Refused, Prints, RevokeEnds, GrantEnds}
-use Rattle.rs_cli.specs.Pipes.{account_of_user, users_of, Pipes, PipeEnds}
+use Rattle.rs_cli.specs.Pipes.{config_of, users_of, Pipes, PipeEnds}
 use Rattle.rs_cli.specs.Runs.{Does, Runs}
 use Rattle.rs_cli.specs.Completeness.{OpensAs, AllowsPipe, Allows, IsGood, Succeeds, IsComplete}
 
@@ -108,21 +108,21 @@ revoke_well out token note faultless allows (inr (same, untouched, inr not)) =
     (subst (λ h. RequestFails h (RevokeRequest token) token out.rows not.refused.fault) is not.refused.fails) not.refused.said
 
 -- a connection over which nothing failed
-ends_well : (users : Users) (accounts : List Account) (source sink wants : Course (List ℕ)) (old : ℕ → History) (before now : ℕ)
-    (served : Served users accounts source sink old before now) (e : End) (note : Note) → (Rose source.before source.now → ⊥) → (Rose sink.before sink.now → ⊥)
-    → EndsSo users accounts source sink wants old before now served e → note ≡ note_of_end e → IsGood note ⊎ (note ≡ Limit) ⊎ ((place : ℕ) × (note ≡ Message place))
-ends_well users accounts source sink wants old before now served end.Closed note no_source no_sink ends said = inl (inl said)
-ends_well users accounts source sink wants old before now served end.Limit note no_source no_sink ends said = inr (inl said)
-ends_well users accounts source sink wants old before now served end.ReadFault note no_source no_sink ends said = absurd (no_source ends.0)
-ends_well users accounts source sink wants old before now served end.WriteFault note no_source no_sink ends said = absurd (no_sink ends.0)
-ends_well users accounts source sink wants old before now served end.NoMemory note no_source no_sink ends said = inl (inr said)
-ends_well users accounts source sink wants old before now served (end.BadMessage f) note no_source no_sink ends said = inr (inr (f.place, said))
+ends_well : (users : Users) (config : Config) (source sink wants entropy : Course (List ℕ)) (old : ℕ → History) (before now : ℕ)
+    (served : Served users config source sink entropy old before now) (e : End) (note : Note) → (Rose source.before source.now → ⊥) → (Rose sink.before sink.now → ⊥)
+    → EndsSo users config source sink wants entropy old before now served e → note ≡ note_of_end e → IsGood note ⊎ (note ≡ Limit) ⊎ ((place : ℕ) × (note ≡ Message place))
+ends_well users config source sink wants entropy old before now served end.Closed note no_source no_sink ends said = inl (inl said)
+ends_well users config source sink wants entropy old before now served end.Limit note no_source no_sink ends said = inr (inl said)
+ends_well users config source sink wants entropy old before now served end.ReadFault note no_source no_sink ends said = absurd (no_source ends.0)
+ends_well users config source sink wants entropy old before now served end.WriteFault note no_source no_sink ends said = absurd (no_sink ends.0)
+ends_well users config source sink wants entropy old before now served end.NoMemory note no_source no_sink ends said = inl (inr said)
+ends_well users config source sink wants entropy old before now served (end.BadMessage f) note no_source no_sink ends said = inr (inr (f.place, said))
 
-pipes_well : (user : List ℕ) (first : History) (quota : ℕ) (rows : Course (List (List ℕ))) (source sink wants : Course (List ℕ)) (note : Note)
-    → (HasFailed source → ⊥) → (HasFailed sink → ⊥) → Pipes user first quota rows source sink wants note
+pipes_well : (config : Config) (first : History) (quota : ℕ) (rows : Course (List (List ℕ))) (source sink wants words : Course (List ℕ)) (note : Note)
+    → (HasFailed source → ⊥) → (HasFailed sink → ⊥) → Pipes config first quota rows source sink wants words note
     → IsGood note ⊎ (note ≡ Limit) ⊎ ((place : ℕ) × (note ≡ Message place))
-pipes_well user first quota rows source sink wants note no_source no_sink pipes =
-    ends_well (users_of pipes.histories quota) (account_of_user user ∷ []) source sink wants (λ user. first) rows.before rows.now pipes.serves.0
+pipes_well config first quota rows source sink wants words note no_source no_sink pipes =
+    ends_well (users_of pipes.histories quota) config source sink wants words (λ user. first) rows.before rows.now pipes.serves.0
     pipes.end note no_source no_sink pipes.serves.1 pipes.said
 
 not_begun_well : (out : Outside) (token : List ℕ) (scopes : List Scope) (h : History) (f : RequestFault) (note : Note) → (HasFailed out.rows → ⊥)
@@ -132,13 +132,13 @@ not_begun_well out token scopes h f note never (inl granted) ungranted fails sai
     let wrong : true ≡ false = sym granted ∙ ap is_some ungranted in absurd cc
 not_begun_well out token scopes h f note never (inr allowed) ungranted fails said = granted_well h token scopes out.rows f note allowed never fails said
 
-pipe_well : (out : Outside) (user token : List ℕ) (scopes : List Scope) (quota : ℕ) (note : Note) → IsFaultless out → AllowsPipe out token scopes
-    → PipeEnds user token scopes quota out.rows out.source out.sink out.wants note → IsGood note ⊎ (note ≡ Limit) ⊎ ((place : ℕ) × (note ≡ Message place))
-pipe_well out user token scopes quota note faultless allows (inl begun) =
-    pipes_well user begun.first quota out.rows out.source out.sink out.wants note faultless.source faultless.sink begun.pipes
-pipe_well out user token scopes quota note faultless allows (inr (same, source, sink, inl not)) =
+pipe_well : (out : Outside) (config : Config) (token : List ℕ) (scopes : List Scope) (quota : ℕ) (note : Note) → IsFaultless out → AllowsPipe out token scopes
+    → PipeEnds config token scopes quota out.rows out.source out.sink out.wants out.words note → IsGood note ⊎ (note ≡ Limit) ⊎ ((place : ℕ) × (note ≡ Message place))
+pipe_well out config token scopes quota note faultless allows (inl begun) =
+    pipes_well config begun.first quota out.rows out.source out.sink out.wants out.words note faultless.source faultless.sink begun.pipes
+pipe_well out config token scopes quota note faultless allows (inr (same, source, sink, words, inl not)) =
     inl (opens_well out allows.history note allows.opens faultless.rows not)
-pipe_well out user token scopes quota note faultless allows (inr (same, source, sink, inr not)) =
+pipe_well out config token scopes quota note faultless allows (inr (same, source, sink, words, inr not)) =
     let is = same_history out.rows.old allows.opens.rows allows.history not.history allows.opens.told allows.opens.opens not.spelled in
     inl (not_begun_well out token scopes allows.history not.refused.fault note faultless.rows allows.allowed
     (subst (λ h. scopes_of h token ≡ None) is not.ungranted)
@@ -146,7 +146,7 @@ pipe_well out user token scopes quota note faultless allows (inr (same, source, 
 
 does_well : (out : Outside) (command : Command) (note : Note) → IsFaultless out → Allows out command → Does out command note → Succeeds command note
 does_well out (Pipe serving) note faultless allows does =
-    pipe_well out serving.user.now serving.token serving.scopes serving.quota note faultless allows does.1
+    pipe_well out (config_of serving.user.now (setting_in serving)) serving.token serving.scopes serving.quota note faultless allows does
 does_well out (Grant scopes) note faultless allows does = grant_well out scopes note faultless allows does.1
 does_well out (Revoke token) note faultless allows does = revoke_well out token note faultless allows does.2
 does_well out Help note faultless allows does = prints_well out.sink _ note faultless.sink does.prints

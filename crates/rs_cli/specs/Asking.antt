@@ -1,6 +1,5 @@
 -- The steps of `grant` and `revoke`.
 use Rattle.std.specs.Prelude.{◌≡◌, ℕ, ◌⊎◌, List, Result, Ok, Err}
-use Rattle.rs_face.specs.declared.entropy.EntropyFault.{EntropyFault}
 use Rattle.rs_scope.specs.declared.scope.Scope.{Scope}
 use Rattle.rs_rules.specs.declared.open_fault.OpenFault.{OpenFault}
 use Rattle.rs_rules.specs.declared.reply.Reply.{Reply}
@@ -16,7 +15,7 @@ use Rattle.rs_cli.specs.declared.request_fault.RequestFault.{RequestFault}
 use Rattle.rs_cli.specs.declared.request_fault.RequestFault.TheVariants as asked
 use Rattle.rs_cli.specs.declared.note.Note.{Note}
 use Rattle.rs_face.specs.Courses.{Course, HasFailed, IsSame}
-use Rattle.rs_cli.specs.Grants.{SpelledBy, OpeningFails, NotOpened, Has, after_reply, RequestFails, Revokes, NotRevoked, DrawsToken, DrawsFew, Grants, GivesUp}
+use Rattle.rs_cli.specs.Grants.{SpelledBy, OpeningFails, NotOpened, Has, after_reply, RequestFails, Revokes, NotRevoked, Grants, GivesUp}
 
 -- the state stands for the history that the rows spell
 pub record OpensState {T R : Type 0} (tree_stands : T → Contents → Type 0) (rows : Course (List (List ℕ))) (count : ℕ) (state : UserState T R) : Type 0 where
@@ -30,11 +29,6 @@ pub record OpensState {T R : Type 0} (tree_stands : T → Contents → Type 0) (
 abbrev pub OpensRows : {T R : Type 0} → (T → Contents → Type 0) → Course (List (List ℕ)) → ℕ → Result (UserState T R) OpenFault → Type 0
 OpensRows tree_stands rows count (Ok state) = OpensState tree_stands rows count state
 OpensRows tree_stands rows count (Err fault) = OpeningFails rows fault
-
--- a token of two words was drawn, or the entropy failed
-abbrev pub DrawsOrFails : Course (List ℕ) → Result (List ℕ) EntropyFault → Type 0
-DrawsOrFails words (Ok token) = DrawsToken words token
-DrawsOrFails words (Err fault) = HasFailed words × DrawsFew words
 
 -- the request grants or revokes the token
 abbrev pub IsAbout : Request → List ℕ → Type 0

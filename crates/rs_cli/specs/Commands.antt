@@ -1,11 +1,12 @@
 -- How words are read as a command.
-use Rattle.std.specs.Prelude.{◌≡◌, ℕ, true, false, max, List, [], ◌∷◌, map, get_or, Option, Some, None, Result, Ok, Err, codes}
+use Rattle.std.specs.Prelude.{◌≡◌, ℕ, true, false, max, List, [], ◌∷◌, map, get_or, Option, Some, None, option_map, Result, Ok, Err, codes}
 use Rattle.rs_scope.specs.declared.scope.Scope.{Scope}
 use Rattle.rs_scope.specs.Tokens.{token_reading}
 use Rattle.rs_scope.specs.ScopeReadings.{scopes_reading}
 use Rattle.rs_cli.specs.declared.command.Command.{Command}
 use Rattle.rs_cli.specs.declared.command.Command.TheVariants.{Pipe, Grant, Revoke, Help, Version}
 use Rattle.rs_cli.specs.declared.command.RowsFile.{RowsFile}
+use Rattle.rs_cli.specs.declared.command.Serving.{Serving}
 use Rattle.rs_cli.specs.declared.command.RowsFile.TheVariants as file
 use Rattle.rs_cli.specs.declared.command.WordFault.{WordFault}
 use Rattle.rs_cli.specs.declared.command.WordFault.TheVariants.{Word, NoMemory}
@@ -13,26 +14,55 @@ use Rattle.rs_cli.specs.declared.forms.Form.{Form}
 use Rattle.rs_cli.specs.Forms.{tests_of, wrong_word}
 use Rattle.rs_cli.specs.Scans.{fits, some_fits, most_taken}
 use Rattle.rs_cli.specs.Numbers.{number_spelled}
+use Rattle.rs_cli.specs.Secrets.{secret_reading}
 
 -- the quota where none is given, in bytes
 abbrev pub default_quota : ℕ
 default_quota = 1073741824
 
--- the quota that the words after SCOPES give
-abbrev pub quota_of : List (List ℕ) → Option ℕ
-quota_of [] = Some default_quota
-quota_of (word ∷ []) = number_spelled word
-quota_of (word ∷ other ∷ others) = None
+-- the server's address where none is given
+abbrev pub default_base : List ℕ
+default_base = codes "http://localhost"
 
--- the words are `pipe`, the user, the token, the scopes and maybe a quota
-pub record IsPipe (user token : List ℕ) (scopes : List Scope) (quota : ℕ) (words : List (List ℕ)) : Type 0 where
+-- how a `pipe` is set up: its quota in bytes, the server's address, the salt and the digest of the user's password
+pub record Setting : Type 0 where
+  pub quota : ℕ
+  pub base : List ℕ
+  pub salt : List ℕ
+  pub secret : Option (List ℕ)
+
+-- where no more is given than a quota
+abbrev pub plain_setting : ℕ → Setting
+plain_setting quota = record { quota = quota; base = default_base; salt = []; secret = None }
+
+-- where all is given
+abbrev pub full_setting : Option ℕ → List ℕ → List ℕ → Option (List ℕ) → Option Setting
+full_setting None base salt secret = None
+full_setting (Some quota) base salt None = None
+full_setting (Some quota) base salt (Some secret) = Some (record { quota = quota; base = base; salt = salt; secret = Some secret })
+
+-- by the words after SCOPES
+abbrev pub setting_of : List (List ℕ) → Option Setting
+setting_of [] = Some (plain_setting default_quota)
+setting_of (quota ∷ []) = option_map plain_setting (number_spelled quota)
+setting_of (quota ∷ base ∷ []) = None
+setting_of (quota ∷ base ∷ salt ∷ []) = None
+setting_of (quota ∷ base ∷ salt ∷ secret ∷ []) = full_setting (number_spelled quota) base salt (secret_reading secret)
+setting_of (quota ∷ base ∷ salt ∷ secret ∷ other ∷ others) = None
+
+-- the setting of what `pipe` serves
+abbrev pub setting_in : Serving → Setting
+setting_in serving = record { quota = serving.quota; base = serving.base.now; salt = serving.salt.now; secret = serving.secret }
+
+-- the words are `pipe`, the user, the token, the scopes and maybe a quota, and then maybe the address, the salt and the digest
+pub record IsPipe (user token : List ℕ) (scopes : List Scope) (setting : Setting) (words : List (List ℕ)) : Type 0 where
   pub token_word : List ℕ
   pub scopes_word : List ℕ
   pub rest : List (List ℕ)
   pub are : words ≡ codes "pipe" ∷ user ∷ token_word ∷ scopes_word ∷ rest
   pub token_is : token_reading token_word ≡ Some token
   pub scopes_are : scopes_reading scopes_word ≡ Ok scopes
-  pub quota_is : quota_of rest ≡ Some quota
+  pub setting_is : setting_of rest ≡ Some setting
 
 -- the words are `grant` and the scopes
 pub record IsGrant (scopes : List Scope) (words : List (List ℕ)) : Type 0 where
@@ -48,7 +78,7 @@ pub record IsRevoke (token : List ℕ) (words : List (List ℕ)) : Type 0 where
 
 -- the words ask for the command
 abbrev pub AsksFor : Command → List (List ℕ) → Type 0
-AsksFor (Pipe serving) words = IsPipe serving.user.now serving.token serving.scopes serving.quota words
+AsksFor (Pipe serving) words = IsPipe serving.user.now serving.token serving.scopes (setting_in serving) words
 AsksFor (Grant scopes) words = IsGrant scopes words
 AsksFor (Revoke token) words = IsRevoke token words
 AsksFor Help words = words ≡ codes "--help" ∷ []

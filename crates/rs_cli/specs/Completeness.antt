@@ -13,7 +13,7 @@ use Rattle.rs_cli.specs.declared.note.Note.{Note}
 use Rattle.rs_cli.specs.declared.note.Note.TheVariants.{Empty, NoMemory, Limit, Message}
 use Rattle.rs_cli.specs.Commands.{AsksFor, default_quota}
 use Rattle.rs_cli.specs.Outsides.{Outside}
-use Rattle.rs_cli.specs.Grants.{DrawsToken}
+use Rattle.rs_front.specs.Drawing.{DrawsToken}
 
 -- the told rows are opened as the history
 pub record OpensAs (out : Outside) (h : History) : Type 0 where

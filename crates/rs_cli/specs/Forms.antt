@@ -1,5 +1,5 @@
 -- The forms that the words of a command line may have.
-use Rattle.std.specs.Prelude.{ℕ, ◌+◌, Bool, false, ◌||◌, List, [], ◌∷◌, map, Option, Some, None, is_some, is_ok, codes, if◌then◌else◌}
+use Rattle.std.specs.Prelude.{ℕ, ◌+◌, Bool, true, false, ◌||◌, List, [], ◌∷◌, map, Option, Some, None, is_some, is_ok, codes, if◌then◌else◌}
 use Rattle.std.specs.Str.{bytes_eq}
 use Rattle.rs_path.specs.Paths.{is_nil}
 use Rattle.rs_path.specs.Users.{is_user}
@@ -8,15 +8,21 @@ use Rattle.rs_scope.specs.ScopeReadings.{scopes_reading}
 use Rattle.rs_cli.specs.declared.forms.Form.{Form}
 use Rattle.rs_cli.specs.declared.forms.Form.TheVariants as form
 use Rattle.rs_cli.specs.declared.forms.Place.{Place}
-use Rattle.rs_cli.specs.declared.forms.Place.TheVariants.{User, Token, Scopes, Number}
+use Rattle.rs_cli.specs.declared.forms.Place.TheVariants.{User, Token, Scopes, Number, Origin, Any, Secret}
 use Rattle.rs_cli.specs.Numbers.{number_spelled}
+use Rattle.rs_cli.specs.Origins.{is_origin}
+use Rattle.rs_cli.specs.Secrets.{secret_reading}
 
--- what a place takes: USER; TOKEN, 32 lower hexadecimal digits; SCOPES; a number
+-- what a place takes: USER; TOKEN, 32 lower hexadecimal digits; SCOPES; a number; an origin; any word; SECRET, 64
+-- lower hexadecimal digits
 abbrev pub takes : Place → List ℕ → Bool
 takes User word = is_user word
 takes Token word = is_some (token_reading word)
 takes Scopes word = is_ok (scopes_reading word)
 takes Number word = is_some (number_spelled word)
+takes Origin word = is_origin word
+takes Any word = true
+takes Secret word = is_some (secret_reading word)
 
 -- ---- the table
 
@@ -28,13 +34,14 @@ pub record NamedPlaces : Type 0 where
 abbrev pub named_places : Form → NamedPlaces
 named_places form.Pipe = record { name = codes "pipe"; places = User ∷ Token ∷ Scopes ∷ [] }
 named_places form.PipeUnder = record { name = codes "pipe"; places = User ∷ Token ∷ Scopes ∷ Number ∷ [] }
+named_places form.PipeAt = record { name = codes "pipe"; places = User ∷ Token ∷ Scopes ∷ Number ∷ Origin ∷ Any ∷ Secret ∷ [] }
 named_places form.Grant = record { name = codes "grant"; places = Scopes ∷ [] }
 named_places form.Revoke = record { name = codes "revoke"; places = Token ∷ [] }
 named_places form.Help = record { name = codes "--help"; places = [] }
 named_places form.Version = record { name = codes "--version"; places = [] }
 
 abbrev pub forms : List Form
-forms = form.Pipe ∷ form.PipeUnder ∷ form.Grant ∷ form.Revoke ∷ form.Help ∷ form.Version ∷ []
+forms = form.Pipe ∷ form.PipeUnder ∷ form.PipeAt ∷ form.Grant ∷ form.Revoke ∷ form.Help ∷ form.Version ∷ []
 
 -- the word itself
 abbrev pub literally : List ℕ → List ℕ → Bool

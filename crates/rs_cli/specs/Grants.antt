@@ -1,12 +1,11 @@
 -- What `grant` and `revoke` do to the rows of a user, and print.
 use Rattle.std.specs.Prelude.{◌≡◌, ℕ, ◌⊎◌, List, [], ◌∷◌, ◌++◌, Option, IfSome, Result, Ok, Err, codes}
-use Rattle.std.specs.Io.KnownBytes.{prepend_known}
 use Rattle.rs_face.specs.declared.sink.SinkFault.{SinkFault}
 use Rattle.rs_face.specs.declared.sink.SinkFault.TheVariants.{Failed}
 use Rattle.rs_face.specs.Causes.{HasCause}
 use Rattle.rs_face.specs.Rows.{with_rows}
 use Rattle.rs_scope.specs.declared.scope.Scope.{Scope}
-use Rattle.rs_scope.specs.Tokens.{bytes_of_words, token_text}
+use Rattle.rs_scope.specs.Tokens.{token_text}
 use Rattle.rs_record.specs.declared.records.Record.TheVariants.{Grant as GrantRecord, Revoke as RevokeRecord}
 use Rattle.rs_rules.specs.declared.open_fault.OpenFault.{OpenFault}
 use Rattle.rs_rules.specs.declared.open_fault.OpenFault.TheVariants.{BadRow, Unlawful, KeeperFailed, NoMemory}
@@ -24,6 +23,7 @@ use Rattle.rs_cli.specs.declared.note.Note.{Note}
 use Rattle.rs_cli.specs.declared.note.Note.TheVariants.{EntropyFailed}
 use Rattle.rs_cli.specs.Causes.{note_of_opening, note_of_request, note_of_printing}
 use Rattle.rs_cli.specs.Commands.{default_quota}
+use Rattle.rs_front.specs.Drawing.{DrawsToken, DrawsFew}
 use Rattle.rs_face.specs.Courses.{Course, HasFailed, IsSame, IsUntouched, Writes}
 
 -- ---- the rows
@@ -113,13 +113,6 @@ RevokeEnds token rows sink note =
 
 -- ---- `grant`
 
--- two words were drawn, and they make the token
-pub record DrawsToken (words : Course (List ℕ)) (token : List ℕ) : Type 0 where
-  pub first : ℕ
-  pub second : ℕ
-  pub drawn : words.old ≡ prepend_known (first ∷ second ∷ []) words.new
-  pub made : token ≡ bytes_of_words first second
-
 -- a token of two words was granted the scopes: the history that the rows spell has the answer Granted, and the rows its
 -- record; they are opened again as the history with it
 pub record Grants (scopes : List Scope) (rows : Course (List (List ℕ))) (words : Course (List ℕ)) (token : List ℕ) : Type 0 where
@@ -136,10 +129,6 @@ pub record NotGranted (scopes : List Scope) (rows : Course (List (List ℕ))) (w
   pub token : List ℕ
   pub draws : DrawsToken words token
   pub refused : Refused history (Grant token scopes) token rows note
-
--- no word was drawn, or one
-abbrev pub DrawsFew : Course (List ℕ) → Type 0
-DrawsFew words = IsSame words ⊎ ((word : ℕ) × (words.old ≡ prepend_known (word ∷ []) words.new))
 
 -- the rows spell a history, and the entropy failed before the second word
 pub record NotDrawn (rows : Course (List (List ℕ))) (words : Course (List ℕ)) (note : Note) : Type 0 where

@@ -11,7 +11,9 @@ use Rattle.rs_rules.specs.Answers.{answer}
 use Rattle.rs_user.specs.declared.state.UserState.{UserState}
 use Rattle.rs_user.specs.Standing.{StandsFor}
 use Rattle.rs_user.specs.Openings.{AreToldRows}
-use Rattle.rs_exchange.specs.declared.account.Account.{Account}
+use Rattle.rs_exchange.specs.declared.account.Config.{Config}
+use Rattle.rs_cli.specs.Commands.{Setting}
+use Rattle.rs_cli.specs.Origins.{host_of}
 use Rattle.rs_front.specs.declared.serve.End.{End}
 use Rattle.rs_front.specs.Due.{Users}
 use Rattle.rs_front.specs.Ends.{Serves}
@@ -39,9 +41,13 @@ pub record NotBegun (token : List ℕ) (scopes : List Scope) (rows : Course (Lis
 
 -- ---- the connection
 
--- the server is the user's alone, and has no password
-abbrev pub account_of_user : List ℕ → Account
-account_of_user user = record { name = user; salt = []; secret = None }
+-- the server is the user's alone
+abbrev pub config_of : List ℕ → Setting → Config
+config_of user setting = record {
+  base = setting.base;
+  host = host_of setting.base;
+  accounts = record { name = user; salt = setting.salt; secret = setting.secret } ∷ [];
+}
 
 -- the one user's histories, asked under the number 1 by this desk and by nobody else
 abbrev pub users_of : (ℕ → History) → ℕ → Users
@@ -49,31 +55,31 @@ users_of histories quota = record { history = histories; quota = λ user. quota;
 
 -- a connection over the user's history, which goes on from `first`; in the end the rows are those of its last state, and are
 -- opened as that
-pub record Pipes (user : List ℕ) (first : History) (quota : ℕ) (rows : Course (List (List ℕ))) (source sink wants : Course (List ℕ)) (note : Note) : Type 0 where
+pub record Pipes (config : Config) (first : History) (quota : ℕ) (rows : Course (List (List ℕ))) (source sink wants words : Course (List ℕ)) (note : Note) : Type 0 where
   pub histories : ℕ → History
   pub end : End
-  pub serves : Serves (users_of histories quota) (account_of_user user ∷ []) source sink wants (λ user. first) rows.before rows.now end
+  pub serves : Serves (users_of histories quota) config source sink wants words (λ user. first) rows.before rows.now end
   pub goes_on : IsFront first (histories 0)
   pub rows_are : AreToldRows rows.new (histories 0)
   pub said : note ≡ note_of_end end
 
 -- the source was served to the sink, from the history that the rows spell on
-pub record Begun (user token : List ℕ) (scopes : List Scope) (quota : ℕ) (rows : Course (List (List ℕ))) (source sink wants : Course (List ℕ)) (note : Note) : Type 0 where
+pub record Begun (config : Config) (token : List ℕ) (scopes : List Scope) (quota : ℕ) (rows : Course (List (List ℕ))) (source sink wants words : Course (List ℕ)) (note : Note) : Type 0 where
   pub history : History
   pub spelled : SpelledBy rows.old history
   pub rows_were : AreToldRows rows.old history
   pub first : History
   pub begins : WithGrant history token scopes quota first
-  pub pipes : Pipes user first quota rows source sink wants note
+  pub pipes : Pipes config first quota rows source sink wants words note
 
 -- ---- `pipe`
 
--- the source was served to the sink; or the rows, the source and the sink are as they were, since the rows were not opened, or
--- the token not granted
-abbrev pub PipeEnds : (user token : List ℕ) → List Scope → ℕ → Course (List (List ℕ)) → (source sink wants : Course (List ℕ)) → Note → Type 0
-PipeEnds user token scopes quota rows source sink wants note =
-    Begun user token scopes quota rows source sink wants note
-    ⊎ (IsSame rows × IsUntouched source × IsUntouched sink × (NotOpened rows note ⊎ NotBegun token scopes rows note))
+-- the source was served to the sink; or the rows, the source, the sink and the entropy are as they were, since the rows were not
+-- opened, or the token not granted
+abbrev pub PipeEnds : Config → List ℕ → List Scope → ℕ → Course (List (List ℕ)) → (source sink wants words : Course (List ℕ)) → Note → Type 0
+PipeEnds config token scopes quota rows source sink wants words note =
+    Begun config token scopes quota rows source sink wants words note
+    ⊎ (IsSame rows × IsUntouched source × IsUntouched sink × IsUntouched words × (NotOpened rows note ⊎ NotBegun token scopes rows note))
 
 -- ---- parts
 

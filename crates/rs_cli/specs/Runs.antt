@@ -5,11 +5,11 @@ use Rattle.rs_cli.specs.declared.command.Command.TheVariants.{Pipe, Grant, Revok
 use Rattle.rs_cli.specs.declared.note.Note.{Note}
 use Rattle.rs_cli.specs.declared.note.Note.TheVariants.{Word, NoMemory}
 use Rattle.rs_cli.specs.Forms.{wrong_word}
-use Rattle.rs_cli.specs.Commands.{AsksFor}
+use Rattle.rs_cli.specs.Commands.{AsksFor, setting_in}
 use Rattle.rs_face.specs.Courses.{IsUntouched}
 use Rattle.rs_cli.specs.Outsides.{Outside, IsAsItWas}
 use Rattle.rs_cli.specs.Grants.{Prints, line_of, RevokeEnds, GrantEnds}
-use Rattle.rs_cli.specs.Pipes.{PipeEnds}
+use Rattle.rs_cli.specs.Pipes.{config_of, PipeEnds}
 use Rattle.rs_cli.specs.Texts.{help_text, version_text}
 
 module _ (out : Outside) where
@@ -23,7 +23,7 @@ module _ (out : Outside) where
   -- what a command does, and how it ends
   abbrev pub Does : Command → Note → Type 0
   Does (Pipe serving) note =
-      IsUntouched out.words × PipeEnds serving.user.now serving.token serving.scopes serving.quota out.rows out.source out.sink out.wants note
+      PipeEnds (config_of serving.user.now (setting_in serving)) serving.token serving.scopes serving.quota out.rows out.source out.sink out.wants out.words note
   Does (Grant scopes) note = IsUntouched out.source × GrantEnds scopes out.rows out.words out.sink note
   Does (Revoke token) note = IsUntouched out.source × IsUntouched out.words × RevokeEnds token out.rows out.sink note
   Does Help note = PrintsText help_text note

@@ -1,22 +1,35 @@
 //! Commands.
 
+ghost use Rattle.std.specs.Prelude.{◌≡◌, true};
+ghost use Rattle.rs_path.specs.Users.{is_user};
+
 use rs_path::NoMemory;
 use rs_scope::{Scopes, Token};
 
-/// Whom `pipe` serves, and which token with which scopes.
+/// Whom `pipe` serves, where, and which token with which scopes.
 #[derive(Debug, Drop)]
 pub struct Serving<'a> {
+    /// The user, whose name is one of a user.
     pub user: &'a [u8],
     pub token: Token,
     pub scopes: Scopes,
+    /// In bytes.
     pub quota: u64,
+    /// The address that the server's own begin with.
+    pub base: &'a str,
+    /// What stands before the user's password where its digest is made.
+    pub salt: &'a [u8],
+    /// The SHA-256 of the salt and the password, where the user has one.
+    pub secret: Option<[u8; 32]>,
+    ghost named: { is_user user.now ≡ true },
 }
 
 /// What the words of a command line ask for.
 #[derive(Debug, Drop)]
 pub enum Command<'a> {
-    /// `pipe USER TOKEN SCOPES [QUOTA]`: grants the token these scopes where it isn't granted, and serves the source to the
-    /// sink. The quota is in bytes, and 1,073,741,824 where none is given.
+    /// `pipe USER TOKEN SCOPES [QUOTA [BASE SALT SECRET]]`: grants the token these scopes where it isn't granted, and serves
+    /// the source to the sink. The quota is in bytes, and 1,073,741,824 where none is given; then the address is
+    /// `http://localhost`, and the user has no password.
     Pipe { serving: Serving<'a> },
     /// `grant SCOPES`: grants a token of two random words these scopes, and prints it.
     Grant { scopes: Scopes },

@@ -5,6 +5,8 @@ ghost use Rattle.rs_scope.specs.ScopeReadings.{scopes_reading};
 ghost use Rattle.rs_cli.specs.Forms.{forms};
 
 use crate::number::read_number;
+use crate::origin::is_origin;
+use crate::secret::read_secret;
 use rs_path::{NoMemory, is_user};
 use rs_scope::{ScopeFault, Scopes, Token};
 use std::alloc::Global;
@@ -20,6 +22,12 @@ pub enum Place {
     Scopes,
     /// A number: decimal digits without a zero in front, at most 18446744073709551615.
     Number,
+    /// BASE: an origin of `http` or `https`, as `url` prints it.
+    Origin,
+    /// SALT: any word.
+    Any,
+    /// SECRET: 64 lower hexadecimal digits.
+    Secret,
 }
 
 /// A form, which is a row of the table.
@@ -29,6 +37,8 @@ pub enum Form {
     Pipe,
     /// `pipe USER TOKEN SCOPES QUOTA`
     PipeUnder,
+    /// `pipe USER TOKEN SCOPES QUOTA BASE SALT SECRET`
+    PipeAt,
     /// `grant SCOPES`
     Grant,
     /// `revoke TOKEN`
@@ -53,6 +63,7 @@ pub fn forms() -> &'static [Form]
     &[
         Form::Pipe,
         Form::PipeUnder,
+        Form::PipeAt,
         Form::Grant,
         Form::Revoke,
         Form::Help,
@@ -74,6 +85,18 @@ impl Form {
             Form::PipeUnder => named(
                 b"pipe",
                 &[Place::User, Place::Token, Place::Scopes, Place::Number],
+            ),
+            Form::PipeAt => named(
+                b"pipe",
+                &[
+                    Place::User,
+                    Place::Token,
+                    Place::Scopes,
+                    Place::Number,
+                    Place::Origin,
+                    Place::Any,
+                    Place::Secret,
+                ],
             ),
             Form::Grant => named(b"grant", &[Place::Scopes]),
             Form::Revoke => named(b"revoke", &[Place::Token]),
@@ -103,6 +126,9 @@ impl Place {
             Place::Token => Ok(Token::read(word.as_bytes()).is_some()),
             Place::Scopes => spells_scopes(alloc, word.as_bytes()),
             Place::Number => Ok(read_number(word).is_some()),
+            Place::Origin => is_origin(alloc, word),
+            Place::Any => Ok(true),
+            Place::Secret => Ok(read_secret(word.as_bytes()).is_some()),
         }
     }
 }

@@ -1,17 +1,15 @@
 //! The commands `grant` and `revoke`.
 
-ghost use Rattle.std.specs.Prelude.{◌≡◌, ◌∷◌, [], IfOk, OnErr};
-ghost use Rattle.std.specs.Io.KnownBytes.{prepend_known};
-ghost use Rattle.rs_face.specs.Causes.{HasCause};
 ghost use Rattle.rs_face.specs.Courses.{course};
-ghost use Rattle.rs_cli.specs.Grants.{DrawsFew, RevokeEnds, GrantEnds};
-ghost use Rattle.rs_cli.specs.Asking.{DrawsOrFails, RevokedOr, GrantedOr};
+ghost use Rattle.rs_cli.specs.Grants.{RevokeEnds, GrantEnds};
+ghost use Rattle.rs_cli.specs.Asking.{RevokedOr, GrantedOr};
 
 use crate::asking::{ask, open_rows};
 use crate::note::Note;
 use crate::printing::print_line;
 use crate::reading::DEFAULT_QUOTA;
-use rs_face::{Entropy, EntropyFault, Keeper, Sink};
+use rs_face::{Entropy, Keeper, Sink};
+use rs_front::draw_token;
 use rs_rules::{Request, Tree};
 use rs_scope::{Scopes, Token};
 use std::alloc::Global;
@@ -96,25 +94,4 @@ fn revoke_token<T: Tree, K: Keeper>(alloc: Global, token: Token, keeper: &mut K)
     let request = Request::Revoke { token };
     ask(&mut state, keeper, &request, token)?;
     Ok(())
-}
-
-// The token of the next two words.
-fn draw_token<E: Entropy>(entropy: &mut E) -> Result<Token, EntropyFault>
-    ensures drawn { DrawsOrFails (course E.words E.faults entropy.old entropy.new) result }
-{
-    match draw_words(entropy) {
-        Ok((first, second)) => Ok(Token::of_words(first, second)),
-        Err(fault) => Err(fault),
-    }
-}
-
-fn draw_words<E: Entropy>(entropy: &mut E) -> Result<(u64, u64), EntropyFault>
-    ensures drawn { IfOk result (λ drawn. E.words entropy.old ≡ prepend_known (drawn.0 ∷ drawn.1 ∷ []) (E.words entropy.new)) }
-    ensures few { OnErr result (DrawsFew
-        (course E.words E.faults entropy.old entropy.new)) }
-    ensures cause { HasCause (E.faults entropy.old) (E.faults entropy.new) EntropyFault.Failed result }
-{
-    let first = entropy.word()?;
-    let second = entropy.word()?;
-    Ok((first, second))
 }

@@ -1,22 +1,28 @@
 //! The words of the command line read as a command.
 
 ghost use Rattle.std.specs.Prelude.{◌≡◌, ◌≤◌, true, Some, Ok, length, map, is_some, string_bytes, IfOk};
+ghost use Rattle.rs_path.specs.Users.{is_user};
 ghost use Rattle.rs_scope.specs.Tokens.{token_reading};
 ghost use Rattle.rs_scope.specs.ScopeReadings.{scopes_reading};
 ghost use Rattle.rs_cli.specs.Numbers.{number_spelled};
 ghost use Rattle.rs_cli.specs.Forms.{takes, tests_of};
 ghost use Rattle.rs_cli.specs.Scans.{count_taken, fits};
-ghost use Rattle.rs_cli.specs.Commands.{AsksFor, FindsAmong, FindsForm, ReadsCommand, word_at};
+ghost use Rattle.rs_cli.specs.Commands.{AsksFor, FindsAmong, FindsForm, ReadsCommand, plain_setting, setting_in, word_at};
+ghost use Rattle.rs_cli.specs.Secrets.{secret_reading};
 
 use crate::command::{Command, Serving, WordFault};
 use crate::forms::{Form, Place, forms};
 use crate::number::read_number;
+use crate::secret::read_secret;
 use rs_path::NoMemory;
 use rs_scope::{Scopes, Token};
 use std::alloc::Global;
 
 /// The quota where none is given, in bytes.
 pub const DEFAULT_QUOTA: u64 = 1_073_741_824;
+
+/// The server's address where none is given.
+const DEFAULT_BASE: &str = "http://localhost";
 
 /// Reads the words, without the program's name, as a command. A word is wrong where none of the forms goes on with the
 /// words up to it; the first wrong word is told by its index, counted from 0. Where the words begin a form and none ends
@@ -115,12 +121,20 @@ fn command_of<'a>(alloc: Global, form: Form, words: &'a [String]) -> Result<Comm
 {
     match form {
         Form::Pipe => {
-            let serving = serving_at(alloc, words, DEFAULT_QUOTA)?;
+            let serving = plain_serving(alloc, words, DEFAULT_QUOTA)?;
             Ok(Command::Pipe { serving })
         }
         Form::PipeUnder => {
             let quota = number_at(words, 4);
-            let serving = serving_at(alloc, words, quota)?;
+            let serving = plain_serving(alloc, words, quota)?;
+            Ok(Command::Pipe { serving })
+        }
+        Form::PipeAt => {
+            let quota = number_at(words, 4);
+            let secret = secret_at(words, 7);
+            let base = word_at(words, 5);
+            let salt = word_at(words, 6).as_bytes();
+            let serving = serving_at(alloc, words, quota, base, salt, Some(secret))?;
             Ok(Command::Pipe { serving })
         }
         Form::Grant => {
@@ -137,12 +151,36 @@ fn command_of<'a>(alloc: Global, form: Form, words: &'a [String]) -> Result<Comm
 }
 
 // Whom the words `pipe USER TOKEN SCOPES ..` serve, under this quota.
-fn serving_at<'a>(alloc: Global, words: &'a [String], quota: u64) -> Result<Serving<'a>, NoMemory>
+fn plain_serving<'a>(
+    alloc: Global,
+    words: &'a [String],
+    quota: u64,
+) -> Result<Serving<'a>, NoMemory>
+    requires user { is_user (word_at (map string_bytes words.now) 1) ≡ true }
     requires token { is_some (token_reading (word_at (map string_bytes words.now) 2)) ≡ true }
     ensures user { IfOk result (λ serving. serving.user.now ≡ word_at (map string_bytes words.now) 1) }
     ensures token { IfOk result (λ serving. token_reading (word_at (map string_bytes words.now) 2) ≡ Some serving.token) }
     ensures scopes { IfOk result (λ serving. scopes_reading (word_at (map string_bytes words.now) 3) ≡ Ok serving.scopes) }
-    ensures quota { IfOk result (λ serving. serving.quota ≡ quota) }
+    ensures setting { IfOk result (λ serving. setting_in serving ≡ plain_setting quota) }
+{
+    serving_at(alloc, words, quota, DEFAULT_BASE, b"", None)
+}
+
+// Whom they serve, under this quota, at this address, and where the user has this salt and this digest of a password.
+fn serving_at<'a>(
+    alloc: Global,
+    words: &'a [String],
+    quota: u64,
+    base: &'a str,
+    salt: &'a [u8],
+    secret: Option<[u8; 32]>,
+) -> Result<Serving<'a>, NoMemory>
+    requires user { is_user (word_at (map string_bytes words.now) 1) ≡ true }
+    requires token { is_some (token_reading (word_at (map string_bytes words.now) 2)) ≡ true }
+    ensures user { IfOk result (λ serving. serving.user.now ≡ word_at (map string_bytes words.now) 1) }
+    ensures token { IfOk result (λ serving. token_reading (word_at (map string_bytes words.now) 2) ≡ Some serving.token) }
+    ensures scopes { IfOk result (λ serving. scopes_reading (word_at (map string_bytes words.now) 3) ≡ Ok serving.scopes) }
+    ensures setting { IfOk result (λ serving. setting_in serving ≡ record { quota = quota; base = base.now; salt = salt.now; secret = secret }) }
 {
     let scopes = scopes_at(alloc, words, 3)?;
     Ok(Serving {
@@ -150,6 +188,9 @@ fn serving_at<'a>(alloc: Global, words: &'a [String], quota: u64) -> Result<Serv
         token: token_at(words, 2),
         scopes,
         quota,
+        base,
+        salt,
+        secret,
     })
 }
 
@@ -176,6 +217,13 @@ fn number_at(words: &[String], index: usize) -> u64
     ensures number { number_spelled (word_at (map string_bytes words.now) index) ≡ Some result }
 {
     read_number(word_at(words, index)).unwrap()
+}
+
+fn secret_at(words: &[String], index: usize) -> [u8; 32]
+    requires secret { is_some (secret_reading (word_at (map string_bytes words.now) index)) ≡ true }
+    ensures secret { secret_reading (word_at (map string_bytes words.now) index) ≡ Some result }
+{
+    read_secret(word_at(words, index).as_bytes()).unwrap()
 }
 
 // The scopes of a word that spells some, so that nothing but memory can be wanting.

@@ -13,14 +13,15 @@ use crate::printing::print_line;
 use crate::serving::pipe;
 use crate::status::Status;
 use crate::texts::{help_text, version_text};
+use rs_chain::ChainTree;
 use rs_face::{Entropy, Keeper, Sink, Source};
-use rs_plain::PlainTree;
 use std::alloc::Global;
 
 /// Does what words were read as by `read_command`, over these objects of the outside.
 ///
-/// `pipe USER TOKEN SCOPES [QUOTA]` opens the rows of the keeper, grants the token these scopes where it isn't granted, and
-/// serves requests of the source with replies to the sink. `grant SCOPES` grants a token of two words of the entropy and
+/// `pipe USER TOKEN SCOPES [QUOTA [BASE SALT SECRET]]` opens the rows of the keeper, grants the token these scopes where it isn't granted, and
+/// serves requests of the source with replies to the sink, where a grant by the user's password draws two words of the entropy
+/// for its token. `grant SCOPES` grants a token of two words of the entropy and
 /// prints it; `revoke TOKEN` takes its scopes away and prints `revoked`; `--help` and `--version` print a text.
 ///
 /// The status says how it ended; `Note` has what each code means. Refusals come in this order: words, rows, the command's
@@ -95,12 +96,12 @@ fn run_command<S: Source, W: Sink, K: Keeper, E: Entropy>(
 {
     match command {
         Command::Pipe { serving } => {
-            pipe::<PlainTree, S, W, K>(alloc, serving, source, sink, keeper)
+            pipe::<ChainTree, S, W, K, E>(alloc, serving, source, sink, keeper, entropy)
         }
         Command::Grant { scopes } => {
-            grant::<PlainTree, K, E, W>(alloc, scopes, keeper, entropy, sink)
+            grant::<ChainTree, K, E, W>(alloc, scopes, keeper, entropy, sink)
         }
-        Command::Revoke { token } => revoke::<PlainTree, K, W>(alloc, token, keeper, sink),
+        Command::Revoke { token } => revoke::<ChainTree, K, W>(alloc, token, keeper, sink),
         Command::Help => print_line(sink, help_text()),
         Command::Version => print_line(sink, version_text()),
     }

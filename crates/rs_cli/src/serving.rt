@@ -1,15 +1,18 @@
 //! The command `pipe`.
 
-ghost use Rattle.std.specs.Prelude.{◌≡◌, ◌∷◌, [], List, ℕ, IfOk};
+ghost use Rattle.std.specs.Prelude.{◌≡◌, length, IfOk};
 ghost use Rattle.rs_rules.specs.Histories.{History};
 ghost use Rattle.rs_face.specs.Courses.{course, IsLater};
-ghost use Rattle.rs_cli.specs.Pipes.{PipeEnds, Pipes, IsOpenState, GrantsWhereMissing, OpensOr, account_of_user};
+ghost use Rattle.rs_exchange.specs.Accounts.{IsConfig};
+ghost use Rattle.rs_cli.specs.Commands.{setting_in};
+ghost use Rattle.rs_cli.specs.Pipes.{PipeEnds, Pipes, IsOpenState, GrantsWhereMissing, OpensOr, config_of};
 
 use crate::asking::{ask, open_rows};
 use crate::command::Serving;
 use crate::note::Note;
+use crate::origin::host_of;
 use crate::request_fault::RequestFault;
-use rs_face::{Keeper, Sink, Source};
+use rs_face::{Entropy, Keeper, Sink, Source};
 use rs_front::{Account, Accounts, Config, serve_stream};
 use rs_path::{Bytes, NoMemory};
 use rs_rules::{Request, Tree};
@@ -17,12 +20,7 @@ use rs_scope::{Scopes, Token};
 use rs_user::{SoloDesk, UserState};
 use std::alloc::Global;
 
-/// The address that a `pipe` is reached at, as far as its replies name one, and the host in it.
-const BASE: &[u8] = b"http://localhost";
-
-const HOST: &[u8] = b"localhost";
-
-/// `pipe USER TOKEN SCOPES [QUOTA]`: opens the rows, grants the token these scopes where it isn't granted, and serves the
+/// `pipe USER TOKEN SCOPES [QUOTA [BASE SALT SECRET]]`: opens the rows, grants the token these scopes where it isn't granted, and serves the
 /// source to the sink.
 ///
 /// The note says how it ended. The rows are opened first: `RowAt` and `RowUnlawful` name the first row that is wrong. Where
@@ -31,30 +29,32 @@ const HOST: &[u8] = b"localhost";
 /// the input ended between two messages or the last message asked to close; `Limit` after 1,000 replies of which the last
 /// message didn't ask to close; `SourceFailed` and `SinkFailed` only where that count of faults rose; `Message` at the
 /// place of bytes that are no request, or of the input's end inside one. `NoMemory` may come at any point.
-pub fn pipe<T: Tree, S: Source, W: Sink, K: Keeper>(
+pub fn pipe<T: Tree, S: Source, W: Sink, K: Keeper, E: Entropy>(
     alloc: Global,
     serving: Serving<'_>,
     source: &mut S,
     sink: &mut W,
     keeper: &mut K,
+    entropy: &mut E,
 ) -> Note
-    ensures ends { PipeEnds serving.entry.user.now serving.entry.token serving.entry.scopes serving.entry.quota
+    ensures ends { PipeEnds (config_of serving.entry.user.now (setting_in serving.entry)) serving.entry.token serving.entry.scopes serving.entry.quota
         (course K.rows K.faults keeper.old keeper.new)
         (course S.left S.faults source.old source.new)
         (course W.written W.faults sink.old sink.new) (course W.written W.wants sink.old sink.new)
+        (course E.words E.faults entropy.old entropy.new)
         result }
 {
+    let Ok(config) = config_of(alloc, &serving) else {
+        return Note::NoMemory;
+    };
     let Serving {
-        user,
         token,
         scopes,
         quota,
+        ..
     } = serving;
-    let Ok(config) = config_of(alloc, user) else {
-        return Note::NoMemory;
-    };
     match open_granted::<T, K>(alloc, keeper, quota, token, scopes) {
-        Ok(mut state) => serve(alloc, &config, &mut state, source, sink, keeper),
+        Ok(mut state) => serve(alloc, &config, &mut state, source, sink, keeper, entropy),
         Err(note) => note,
     }
 }
@@ -99,65 +99,72 @@ fn grant_where_missing<T: Tree, K: Keeper>(
 }
 
 // Serves the source to the sink over the state and its rows.
-fn serve<T: Tree, S: Source, W: Sink, K: Keeper>(
+fn serve<T: Tree, S: Source, W: Sink, K: Keeper, E: Entropy>(
     alloc: Global,
     config: &Config,
     state: &mut UserState<T>,
     source: &mut S,
     sink: &mut W,
     keeper: &mut K,
+    entropy: &mut E,
 ) -> Note
-    requires account { (user : List ℕ) × (config.now.accounts ≡ account_of_user user ∷ []) }
+    requires config { IsConfig config.now }
+    requires one { length config.now.accounts ≡ 1 }
     requires ready { (h : History) × IsOpenState T.stands (K.rows keeper.old) (K.row_count keeper.old) state.old.quota state.old h }
-    ensures serves { (user : List ℕ) (h : History) → config.now.accounts ≡ account_of_user user ∷ []
-        → IsOpenState T.stands (K.rows keeper.old) (K.row_count keeper.old) state.old.quota state.old h
-        → Pipes user h state.old.quota
+    ensures serves { (h : History) → IsOpenState T.stands (K.rows keeper.old) (K.row_count keeper.old) state.old.quota state.old h
+        → Pipes config.now h state.old.quota
         (course K.rows K.faults keeper.old keeper.new)
         (course S.left S.faults source.old source.new)
         (course W.written W.faults sink.old sink.new) (course W.written W.wants sink.old sink.new)
+        (course E.words E.faults entropy.old entropy.new)
         result }
 {
     let mut desk = SoloDesk::new(state, keeper);
-    serve_desk(alloc, config, source, sink, &mut desk)
+    serve_desk(alloc, config, source, sink, &mut desk, entropy)
 }
 
 // Serves the source to the sink over the desk.
-fn serve_desk<T: Tree, S: Source, W: Sink, K: Keeper>(
+fn serve_desk<T: Tree, S: Source, W: Sink, K: Keeper, E: Entropy>(
     alloc: Global,
     config: &Config,
     source: &mut S,
     sink: &mut W,
     desk: &mut SoloDesk<'_, K, T>,
+    entropy: &mut E,
 ) -> Note
-    requires account { (user : List ℕ) × (config.now.accounts ≡ account_of_user user ∷ []) }
+    requires config { IsConfig config.now }
+    requires one { length config.now.accounts ≡ 1 }
     requires ready { (h : History)
         × IsOpenState T.stands (K.rows desk.old.keeper.now) (K.row_count desk.old.keeper.now) desk.old.state.now.quota desk.old.state.now h }
-    ensures serves { (user : List ℕ) (h : History) → config.now.accounts ≡ account_of_user user ∷ []
+    ensures serves { (h : History)
         → IsOpenState T.stands (K.rows desk.old.keeper.now) (K.row_count desk.old.keeper.now) desk.old.state.now.quota desk.old.state.now h
-        → Pipes user h desk.old.state.now.quota
+        → Pipes config.now h desk.old.state.now.quota
         (course K.rows K.faults desk.old.keeper.now desk.new.keeper.now)
         (course S.left S.faults source.old source.new)
         (course W.written W.faults sink.old sink.new) (course W.written W.wants sink.old sink.new)
+        (course E.words E.faults entropy.old entropy.new)
         result }
     ensures same_keeper { desk.new.keeper.ghost_name ≡ desk.old.keeper.ghost_name }
     ensures same_state { desk.new.state.ghost_name ≡ desk.old.state.ghost_name }
 {
-    Note::from(serve_stream(alloc, config, source, sink, desk))
+    Note::from(serve_stream(alloc, config, source, sink, desk, entropy))
 }
 
-// A server of this user alone, who has no password.
-fn config_of(alloc: Global, user: &[u8]) -> Result<Config, NoMemory>
-    ensures account { IfOk result (λ config. config.accounts ≡ account_of_user user.now ∷ []) }
+// A server of this user alone.
+fn config_of(alloc: Global, serving: &Serving<'_>) -> Result<Config, NoMemory>
+    ensures same { IfOk result (λ config. config ≡ config_of serving.now.user.now (setting_in serving.now)) }
+    ensures config { IfOk result IsConfig }
 {
     let mut accounts = Accounts::new(alloc);
     accounts.push(Account {
-        name: Bytes::of(Vec::from_slice(alloc, user)?),
-        salt: Bytes::of(Vec::new(alloc)),
-        secret: None,
+        name: Bytes::of(Vec::from_slice(alloc, serving.user)?),
+        salt: Bytes::of(Vec::from_slice(alloc, serving.salt)?),
+        secret: serving.secret,
     })?;
+    let base = serving.base.as_bytes();
     Ok(Config {
-        base: Bytes::of(Vec::from_slice(alloc, BASE)?),
-        host: Bytes::of(Vec::from_slice(alloc, HOST)?),
+        base: Bytes::of(Vec::from_slice(alloc, base)?),
+        host: Bytes::of(Vec::from_slice(alloc, host_of(base))?),
         accounts,
     })
 }

@@ -1,5 +1,6 @@
 mod AskedLemmas
 mod FieldLemmas
+mod GrantLemmas
 mod PartLemmas
 mod ReadBackLemmas
 mod RoomLemmas

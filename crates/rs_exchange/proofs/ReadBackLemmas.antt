@@ -26,16 +26,18 @@ use Rattle.rs_request.proofs.Cited.{IsField-from_tests}
 use Rattle.rs_reply.proofs.Cited.{reply_head_lines}
 use Rattle.httparse.specs.Grammar.{is_token_byte, trim_ows}
 use Rattle.rs_exchange.specs.declared.answer.Answer.{Answer}
-use Rattle.rs_exchange.specs.declared.answer.Answer.TheVariants.{Decided, Preflight, Refused}
+use Rattle.rs_exchange.specs.declared.answer.Answer.TheVariants.{Decided, Preflight, Refused, Made, Redirect}
+use Rattle.rs_exchange.specs.declared.answer.Sheet.{Sheet}
+use Rattle.rs_exchange.specs.declared.answer.Sheet.TheVariants.{Description, ConsentPage, DeniedPage}
 use Rattle.rs_exchange.specs.declared.manner.Manner.{Manner}
 use Rattle.rs_exchange.specs.declared.refusal.Methods.{Methods}
 use Rattle.rs_exchange.specs.declared.refusal.Methods.TheVariants as methods
 use Rattle.rs_exchange.specs.declared.refusal.Refusal.{Refusal}
-use Rattle.rs_exchange.specs.declared.refusal.Refusal.TheVariants.{NotFound, NotAllowed, BadPath, BadCondition, BadKind, PartOnly}
+use Rattle.rs_exchange.specs.declared.refusal.Refusal.TheVariants.{NotFound, NotAllowed, BadPath, BadCondition, BadKind, PartOnly, BadResource, BadAddress}
 use Rattle.rs_exchange.specs.FixedReplies.{empty_field, interim_message, interim_bytes, starved_message, starved_bytes, closing_message, closing_bytes, closing_texts, fault_status, fault_bytes}
 use Rattle.rs_exchange.specs.Lines.{lines_of, first_lines, last_lines, head_lines}
-use Rattle.rs_exchange.specs.ReadBack.{IsSendable, IsSendableReply, IsReadBack, IsVersion, IsCountable}
-use Rattle.rs_exchange.specs.Replies.{Outline, plain, named_field, tag_field, fresh_field, type_field, length_field, challenge_field, allow_field, origin_field, exposed_field, close_field, preflight_fields, shown_fields, origin_fields, length_fields, close_fields, reply_outline, refusal_outline, outline_of, reply_by, reply_message, reply_bytes}
+use Rattle.rs_exchange.specs.ReadBack.{IsSendable, IsSendableReply, IsReadBack, IsVersion, IsCountable, IsAddressLine}
+use Rattle.rs_exchange.specs.Replies.{Outline, plain, named_field, tag_field, fresh_field, type_field, length_field, challenge_field, allow_field, origin_field, exposed_field, close_field, location_field, sheet_status, sheet_kind, preflight_fields, shown_fields, origin_fields, length_fields, close_fields, reply_outline, refusal_outline, outline_of, reply_by, reply_message, reply_bytes}
 use Rattle.rs_exchange.specs.Targets.{method_list}
 use Rattle.rs_exchange.proofs.FieldLemmas.{IsPlain, IsSized, ArePlain, AreFramed, IsKind, kind_parts, tag_is_plain, type_is_plain, length_is_sized, empty_is_sized, none_plain, more_plain, joined_plain, plain_framed, sized_framed}
 use Rattle.rs_exchange.proofs.PartLemmas.{head_is}
@@ -111,7 +113,7 @@ record IsGood (it : Outline) : Type 0 where
   phrase : 0 < length (phrase_of it.status)
   final : it.status ≢ 100
   plain : ArePlain it.fields
-  short : length (lines_of it.fields) ≤ 400
+  short : length (lines_of it.fields) ≤ 15100
   counted : IsCountable it.body
   empty : (it.status == 204 || it.status == 304) ≡ true → it.body ≡ []
 
@@ -148,13 +150,13 @@ bare_is_good status phrase final = record {
 }
 
 -- a status with one field
-field_is_good : (status : ℕ) (f : Field) → 0 < length (phrase_of status) → status ≢ 100 → IsPlain f → length (field_text f) ≤ 400
+field_is_good : (status : ℕ) (f : Field) → 0 < length (phrase_of status) → status ≢ 100 → IsPlain f → length (field_text f) ≤ 15100
     → IsGood (plain status (f ∷ []))
 field_is_good status f phrase final p short = record {
   phrase = phrase;
   final = final;
   plain = one_plain f p;
-  short = subst (λ (l : List ℕ). length l ≤ 400) (sym (append-nil (field_text f))) short;
+  short = subst (λ (l : List ℕ). length l ≤ 15100) (sym (append-nil (field_text f))) short;
   counted = omega arith;
   empty = λ none. refl;
 }
@@ -218,6 +220,38 @@ refusal_is_good BadPath = bare 400 (omega arith) (omega arith)
 refusal_is_good BadCondition = bare 400 (omega arith) (omega arith)
 refusal_is_good BadKind = bare 400 (omega arith) (omega arith)
 refusal_is_good PartOnly = bare 400 (omega arith) (omega arith)
+refusal_is_good BadResource = bare 400 (omega arith) (omega arith)
+refusal_is_good BadAddress = bare 400 (omega arith) (omega arith)
+
+-- a text that was made, with its content type
+typed_is_good : (status : ℕ) (kind text : List ℕ) → 0 < length (phrase_of status) → 101 ≤ status → is_kind kind ≡ true
+    → (status == 204 || status == 304) ≡ false → IsCountable text → IsGood (record { status = status; fields = type_field kind ∷ []; body = text })
+typed_is_good status kind text phrase high is other counted =
+    let few = (kind_parts kind is).few in
+    let line = field_length (type_field kind) in record {
+      phrase = phrase;
+      final = final_by status high;
+      plain = one_plain _ (type_is_plain kind is);
+      short = subst (λ (l : List ℕ). length l ≤ 15100) (sym (append-nil (field_text (type_field kind)))) (omega (arith, few, line));
+      counted = counted;
+      empty = λ none. cc;
+    }
+
+sheet_is_good : (sheet : Sheet) (text : List ℕ) → IsCountable text → IsGood (outline_of (Made sheet text))
+sheet_is_good Description text counted = typed_is_good 200 _ text (omega arith) (omega arith) refl refl counted
+sheet_is_good ConsentPage text counted = typed_is_good 200 _ text (omega arith) (omega arith) refl refl counted
+sheet_is_good DeniedPage text counted = typed_is_good 403 _ text (omega arith) (omega arith) refl refl counted
+
+-- an address
+location_is_plain : (address : List ℕ) → IsAddressLine address → IsPlain (location_field address)
+unfolding is_token_byte same_name
+location_is_plain address a = record { valid = a.valid; trimmed = a.trimmed; uncoded = refl; unsized = refl }
+
+redirect_is_good : (address : List ℕ) → IsAddressLine address → IsGood (outline_of (Redirect address))
+redirect_is_good address a =
+    let line = field_length (location_field address) in
+    let few = a.short in
+    field_is_good 302 (location_field address) (omega arith) (final_by 302 (omega arith)) (location_is_plain address a) (omega (arith, line, few))
 
 preflight_is_good : IsGood (plain 204 preflight_fields)
 preflight_is_good = record {
@@ -233,6 +267,8 @@ answer_is_good : (a : Answer) → IsSendable a → IsGood (outline_of a)
 answer_is_good (Decided r) s = reply_is_good r s
 answer_is_good Preflight s = preflight_is_good
 answer_is_good (Refused r) s = refusal_is_good r
+answer_is_good (Made sheet text) s = sheet_is_good sheet text s
+answer_is_good (Redirect address) s = redirect_is_good address s
 
 -- ---- replies that can be read back
 
@@ -256,7 +292,7 @@ readable bodiless m framing phrase fields empty framed short = record {
 head_short : (manner : Manner) (it : Outline) → IsGood it → length (reply_head_text (reply_by manner it)) ≤ max_head
 head_short manner it g =
     let few = g.counted in
-    let first = first_short manner.shared it.status it.fields g.short in
+    let first = first_short manner.shared it.status 15100 it.fields g.short in
     let last = last_short manner.closing it.status (length it.body) (omega (arith, few)) in
     subst (λ (l : List ℕ). length l ≤ max_head) (head_is manner it) (rw length-append (omega (arith, first, last)))
 

@@ -8,12 +8,12 @@ use Rattle.rs_request.specs.declared.field.Field.{Field}
 use Rattle.rs_request.specs.Writing.{field_text}
 use Rattle.rs_reply.specs.Writing.{phrase_of, status_line}
 use Rattle.rs_exchange.specs.declared.answer.Answer.{Answer}
-use Rattle.rs_exchange.specs.declared.answer.Answer.TheVariants.{Decided, Preflight, Refused}
+use Rattle.rs_exchange.specs.declared.answer.Answer.TheVariants.{Decided, Preflight, Refused, Made, Redirect}
 use Rattle.rs_exchange.specs.declared.outline.OwnFields.{OwnFields}
 use Rattle.rs_exchange.specs.declared.outline.OwnFields.TheVariants as own
 use Rattle.rs_exchange.specs.declared.refusal.Methods.{Methods}
 use Rattle.rs_exchange.specs.declared.refusal.Methods.TheVariants as methods
-use Rattle.rs_exchange.specs.declared.refusal.Refusal.TheVariants.{NotFound, NotAllowed, BadPath, BadCondition, BadKind, PartOnly}
+use Rattle.rs_exchange.specs.declared.refusal.Refusal.TheVariants.{NotFound, NotAllowed, BadPath, BadCondition, BadKind, PartOnly, BadResource, BadAddress}
 use Rattle.rs_exchange.specs.Lines.{lines_of, first_lines, last_lines}
 use Rattle.rs_exchange.specs.Outlines.{own_fields, is_shown, IsShort}
 use Rattle.rs_exchange.specs.Replies.{tag_field, length_field, origin_fields, length_fields, close_fields, outline_of, has_content}
@@ -87,6 +87,8 @@ own_short (own.Allow m) plain short =
     let listed = list_short m in
     rw (length-append) (let all = field_length (record { name = codes "Allow"; value = method_list m }) in omega (arith, all, listed))
 own_short own.Preflight plain short = omega arith
+own_short (own.Typed kind) plain short = grind arith
+own_short (own.Location address) plain short = grind arith
 
 length_short : (status size : ℕ) → size < 2 ^ 64 → length (lines_of (length_fields status size)) ≤ 60
 length_short status size small = by_test (status == 204 || status == 304)
@@ -103,9 +105,9 @@ close_short false = omega arith
 
 -- ---- whole heads
 
-pub first_short : (shared : Bool) (status : ℕ) (own : List Field) → length (lines_of own) ≤ 400 → length (first_lines shared status own) ≤ 600
+pub first_short : (shared : Bool) (status most : ℕ) (own : List Field) → length (lines_of own) ≤ most → length (first_lines shared status own) ≤ 200 + most
 unfolding first_lines
-first_short shared status own short =
+first_short shared status most own short =
     let line = status_line_short status in
     let origin = origin_short shared in
     rw (length-append, length-append) (omega (arith, line, origin, short))
@@ -151,13 +153,17 @@ no_body (Refused BadPath) none = refl
 no_body (Refused BadCondition) none = refl
 no_body (Refused BadKind) none = refl
 no_body (Refused PartOnly) none = refl
+no_body (Refused BadResource) none = refl
+no_body (Refused BadAddress) none = refl
+no_body (Made sheet text) none = grind arith
+no_body (Redirect address) none = grind arith
 
 -- where the lines up to the answer's own didn't fit, the answer has a body of its own
 pub too_long_first : (shared : Bool) (status : ℕ) (f : OwnFields) (a : Answer) (capacity before : ℕ) → 1024 ≤ capacity → before ≡ 0
     → is_shown f ≡ has_content a → IsShort f → capacity < before + length (first_lines shared status (own_fields f)) → has_content a ≡ true
 too_long_first shared status f a capacity before room empty shows short long =
     true_unless (has_content a) (λ none.
-    let first = first_short shared status (own_fields f) (own_short f (shows ∙ none) short) in
+    let first = first_short shared status 400 (own_fields f) (own_short f (shows ∙ none) short) in
     omega (arith, room, empty, first, long))
 
 -- the same where those behind it didn't fit
@@ -166,7 +172,7 @@ pub too_long_last : (shared closing : Bool) (status size : ℕ) (f : OwnFields) 
     → capacity < before + length (last_lines closing status size) → has_content a ≡ true
 too_long_last shared closing status size f a capacity before room is shows short sized long =
     true_unless (has_content a) (λ none.
-    let first = first_short shared status (own_fields f) (own_short f (shows ∙ none) short) in
+    let first = first_short shared status 400 (own_fields f) (own_short f (shows ∙ none) short) in
     let last = subst (λ (n : ℕ). length (last_lines closing status n) ≤ 120) (sym (sized ∙ no_body a none)) (last_short closing status 0 (omega arith)) in
     omega (arith, room, is, first, last, long))
 

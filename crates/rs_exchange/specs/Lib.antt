@@ -2,13 +2,16 @@ pub mod Accounts
 pub mod Asking
 pub mod Conditions
 pub mod ContentTypes
+pub mod Discoveries
 pub mod Fields
 pub mod FixedReplies
+pub mod Grants
 pub mod Lines
 pub mod Manners
 pub mod Outlines
 pub mod Passes
 pub mod ReadBack
+pub mod Refusals
 pub mod Replies
 pub mod Requests
 pub mod Targets

@@ -1,5 +1,7 @@
 -- That what the server writes is read back, and the answers of which that holds.
-use Rattle.std.specs.Prelude.{◌≡◌, ℕ, ◌<◌, ◌^◌, ⊤, Bool, true, List, ◌++◌, length, Ok}
+use Rattle.std.specs.Prelude.{◌≡◌, ℕ, ◌<◌, ◌≤◌, ◌^◌, ⊤, Bool, true, List, ◌++◌, length, Ok}
+use Rattle.std.specs.List.{list_all}
+use Rattle.httparse.specs.Grammar.{is_value_byte, trim_ows}
 use Rattle.rs_path.specs.Kinds.{is_kind}
 use Rattle.rs_folder.specs.Descriptions.{folder_text}
 use Rattle.rs_rules.specs.declared.reply.Reply.{Reply}
@@ -8,7 +10,7 @@ use Rattle.rs_reply.specs.declared.message.ReplyMessage.{ReplyMessage}
 use Rattle.rs_request.specs.Limits.{max_length_digits}
 use Rattle.rs_reply.specs.Replies.{reply_of}
 use Rattle.rs_exchange.specs.declared.answer.Answer.{Answer}
-use Rattle.rs_exchange.specs.declared.answer.Answer.TheVariants.{Decided, Preflight, Refused}
+use Rattle.rs_exchange.specs.declared.answer.Answer.TheVariants.{Decided, Preflight, Refused, Made, Redirect}
 use Rattle.rs_exchange.specs.FixedReplies.{interim_bytes}
 
 -- a version is a number of 64 bits
@@ -29,11 +31,19 @@ IsSendableReply (Removed version) = IsVersion version
 IsSendableReply (Same version) = IsVersion version
 IsSendableReply other = ⊤
 
+-- an address can be sent as a field: its bytes are those of a value, and it is no longer than a head
+pub record IsAddressLine (address : List ℕ) : Type 0 where
+  pub valid : list_all is_value_byte address ≡ true
+  pub trimmed : trim_ows address ≡ address
+  pub short : length address ≤ 15000
+
 -- an answer can be sent
 abbrev pub IsSendable : Answer → Type 0
 IsSendable (Decided reply) = IsSendableReply reply
 IsSendable Preflight = ⊤
 IsSendable (Refused refusal) = ⊤
+IsSendable (Made sheet text) = IsCountable text
+IsSendable (Redirect address) = IsAddressLine address
 
 -- the bytes are read as this reply, alone and behind the interim reply, which is skipped (RFC 9110, section 15.2)
 pub record IsReadBack (bodiless : Bool) (bytes : List ℕ) (m : ReplyMessage) : Type 0 where

@@ -7,10 +7,12 @@ use Rattle.rs_reply.specs.declared.message.ReplyMessage.{ReplyMessage}
 use Rattle.rs_reply.specs.Writing.{reply_text}
 use Rattle.rs_folder.specs.Descriptions.{folder_text}
 use Rattle.rs_exchange.specs.declared.answer.Answer.{Answer}
-use Rattle.rs_exchange.specs.declared.answer.Answer.TheVariants.{Decided, Preflight, Refused}
+use Rattle.rs_exchange.specs.declared.answer.Answer.TheVariants.{Decided, Preflight, Refused, Made, Redirect}
+use Rattle.rs_exchange.specs.declared.answer.Sheet.{Sheet}
+use Rattle.rs_exchange.specs.declared.answer.Sheet.TheVariants.{Description, ConsentPage, DeniedPage}
 use Rattle.rs_exchange.specs.declared.manner.Manner.{Manner}
 use Rattle.rs_exchange.specs.declared.refusal.Refusal.{Refusal}
-use Rattle.rs_exchange.specs.declared.refusal.Refusal.TheVariants.{NotFound, NotAllowed, BadPath, BadCondition, BadKind, PartOnly}
+use Rattle.rs_exchange.specs.declared.refusal.Refusal.TheVariants.{NotFound, NotAllowed, BadPath, BadCondition, BadKind, PartOnly, BadResource, BadAddress}
 use Rattle.rs_exchange.specs.Targets.{method_list}
 
 -- ---- fields
@@ -42,6 +44,10 @@ challenge_field text = record { name = codes "WWW-Authenticate"; value = text }
 -- a list of methods (RFC 9110, section 10.2.1)
 abbrev pub allow_field : List ℕ → Field
 allow_field list = record { name = codes "Allow"; value = list }
+
+-- where the browser goes on (RFC 9110, section 10.2.2)
+abbrev pub location_field : List ℕ → Field
+location_field address = record { name = codes "Location"; value = address }
 
 -- pages of any origin may read the reply (Fetch, CORS)
 abbrev pub origin_field : Field
@@ -111,17 +117,35 @@ refusal_outline BadPath = plain 400 []
 refusal_outline BadCondition = plain 400 []
 refusal_outline BadKind = plain 400 []
 refusal_outline PartOnly = plain 400 []
+refusal_outline BadResource = plain 400 []
+refusal_outline BadAddress = plain 400 []
+
+-- a text that was made is sent with this status
+abbrev pub sheet_status : Sheet → ℕ
+sheet_status Description = 200
+sheet_status ConsentPage = 200
+sheet_status DeniedPage = 403
+
+-- and with this content type
+abbrev pub sheet_kind : Sheet → List ℕ
+sheet_kind Description = codes "application/jrd+json"
+sheet_kind ConsentPage = codes "text/html; charset=utf-8"
+sheet_kind DeniedPage = codes "text/html; charset=utf-8"
 
 -- of an answer
 abbrev pub outline_of : Answer → Outline
 outline_of (Decided reply) = reply_outline reply
 outline_of Preflight = plain 204 preflight_fields
 outline_of (Refused refusal) = refusal_outline refusal
+outline_of (Made sheet text) = record { status = sheet_status sheet; fields = type_field (sheet_kind sheet) ∷ []; body = text }
+outline_of (Redirect address) = plain 302 (location_field address ∷ [])
 
--- the answer has a body of its own: a document or the description of a folder
+-- the answer has a part of any length: a document, the description of a folder, a text that was made, or an address
 abbrev pub has_content : Answer → Bool
 has_content (Decided (Found version kind body)) = true
 has_content (Decided (Folder version items)) = true
+has_content (Made sheet text) = true
+has_content (Redirect address) = true
 has_content answer = false
 
 -- the description of a folder that is answered

@@ -8,24 +8,22 @@ use Rattle.rs_rules.specs.declared.cond.Cond.{Cond}
 use Rattle.rs_rules.specs.declared.request.Request.TheVariants.{Store}
 use Rattle.rs_request.specs.declared.field.Field.{Field}
 use Rattle.rs_request.specs.declared.message.RequestMessage.{RequestMessage}
-use Rattle.rs_exchange.specs.declared.account.Account.{Account}
-use Rattle.rs_exchange.specs.declared.answer.Answer.TheVariants.{Preflight, Refused}
+use Rattle.rs_exchange.specs.declared.account.Config.{Config}
+use Rattle.rs_exchange.specs.declared.answer.Answer.TheVariants.{Preflight}
 use Rattle.rs_exchange.specs.declared.asked.Asked.{Asked}
 use Rattle.rs_exchange.specs.declared.asked.Asked.TheVariants.{Desk, Now}
 use Rattle.rs_exchange.specs.declared.refusal.Methods.TheVariants as methods
-use Rattle.rs_exchange.specs.declared.refusal.Refusal.{Refusal}
 use Rattle.rs_exchange.specs.declared.refusal.Refusal.TheVariants.{NotFound, NotAllowed, BadPath, BadCondition, BadKind, PartOnly}
 use Rattle.rs_exchange.specs.declared.verb.Verb.{Verb}
 use Rattle.rs_exchange.specs.declared.verb.Verb.TheVariants.{Data, Options, Post, Other}
 use Rattle.rs_exchange.specs.Conditions.{cond_of}
 use Rattle.rs_exchange.specs.ContentTypes.{kind_of, is_part}
+use Rattle.rs_exchange.specs.Discoveries.{asked_discovery}
 use Rattle.rs_exchange.specs.Fields.{values_of}
+use Rattle.rs_exchange.specs.Grants.{asked_grant}
 use Rattle.rs_exchange.specs.Passes.{pass_of}
+use Rattle.rs_exchange.specs.Refusals.{refused}
 use Rattle.rs_exchange.specs.Targets.{Target, Server, Storage, Discovery, Grant, Nothing, RequestLine, request_line_of}
-
--- the message is refused, and no desk is asked
-abbrev pub refused : Refusal → Asked
-refused refusal = Now (Refused refusal)
 
 -- the conditions, then the content type, then whether the whole is brought, and the request where they are right
 abbrev pub asked_by : List Field → List ℕ → ℕ → Method → Path → Option Cond → Option Cond → Option (List ℕ) → Bool → Asked
@@ -75,18 +73,18 @@ asked_server Options = Now Preflight
 asked_server Post = refused NotFound
 asked_server Other = refused NotFound
 
--- what is asked of a target. Those of discovery and grants aren't served yet
-abbrev pub asked_there : List Field → List ℕ → Verb → Target → Asked
-asked_there fields body verb Server = asked_server verb
-asked_there fields body verb (Storage user text) = asked_storage fields body user (result_ok (target_reading text)) verb
-asked_there fields body verb Discovery = refused NotFound
-asked_there fields body verb (Grant user) = refused NotFound
-asked_there fields body verb Nothing = refused NotFound
+-- what is asked of a target
+abbrev pub asked_there : Config → List Field → List ℕ → Verb → Target → Asked
+asked_there config fields body verb Server = asked_server verb
+asked_there config fields body verb (Storage user text) = asked_storage fields body user (result_ok (target_reading text)) verb
+asked_there config fields body verb (Discovery query) = asked_discovery config verb query
+asked_there config fields body verb (Grant user query) = asked_grant config.accounts user verb query body
+asked_there config fields body verb Nothing = refused NotFound
 
 -- what a request line with these fields and this body asks
-abbrev pub asked_line : List Field → List ℕ → RequestLine → Asked
-asked_line fields body line = asked_there fields body line.verb line.target
+abbrev pub asked_line : Config → List Field → List ℕ → RequestLine → Asked
+asked_line config fields body line = asked_there config fields body line.verb line.target
 
--- what the message asks of a server of these users
-abbrev pub asked_of : List Account → RequestMessage → Asked
-asked_of accounts m = asked_line m.fields m.body (request_line_of accounts m.method m.target)
+-- what the message asks of a server that is set up so
+abbrev pub asked_of : Config → RequestMessage → Asked
+asked_of config m = asked_line config m.fields m.body (request_line_of config.accounts m.method m.target)

@@ -1,5 +1,5 @@
 -- What the target of a request is (RFC 9112, section 3.2), and which methods it takes. Which targets there are is own.
-use Rattle.std.specs.Prelude.{ℕ, Bool, not, ◌&&◌, ◌||◌, ◌==◌, nat_le, List, [], length, take, drop, Option, Some, None, position, codes, if◌then◌else◌}
+use Rattle.std.specs.Prelude.{ℕ, Bool, not, ◌&&◌, ◌||◌, ◌==◌, ◌+◌, nat_le, List, [], length, take, drop, Option, Some, None, position, codes, if◌then◌else◌}
 use Rattle.std.specs.Option.{option_map_or}
 use Rattle.std.specs.Str.{bytes_eq}
 use Rattle.rs_scope.specs.declared.method.Method.TheVariants.{Get, Head, Put, Delete}
@@ -46,27 +46,35 @@ without_origin target = option_map_or from_path (after_scheme target) target
 abbrev pub before_query : List ℕ → List ℕ
 before_query text = option_map_or (λ end. take end text) (position (λ byte. byte == 63) text) text
 
+-- what stands behind it, or nothing
+abbrev pub behind_query : List ℕ → List ℕ
+behind_query text = option_map_or (λ end. drop (end + 1) text) (position (λ byte. byte == 63) text) []
+
 -- the target without its origin and without its query
 unfoldable pub path_part : List ℕ → List ℕ
 path_part target = before_query (without_origin target)
 
+-- its query
+unfoldable pub query_part : List ℕ → List ℕ
+query_part target = behind_query (without_origin target)
+
 -- ---- what a target is
 
--- the server as a whole; a text that is to be a path in the storage of a user; where users are found; where a user grants
--- access; or nothing that is here
+-- the server as a whole; a text that is to be a path in the storage of a user; where users are found, with a query; where a
+-- user grants access, with a query; or nothing that is here
 pub data Target : Type 0 where
   Server : Target
   Storage : ℕ → List ℕ → Target
-  Discovery : Target
-  Grant : ℕ → Target
+  Discovery : List ℕ → Target
+  Grant : ℕ → List ℕ → Target
   Nothing : Target
 
 -- what the code's target is
 abbrev pub target_seen : TargetRead → Target
 target_seen read.Server = Server
 target_seen (read.Storage user path) = Storage user path.now
-target_seen read.Discovery = Discovery
-target_seen (read.Grant user) = Grant user
+target_seen (read.Discovery query) = Discovery query.now
+target_seen (read.Grant user query) = Grant user query.now
 target_seen read.Nothing = Nothing
 
 -- what follows the prefix, where the text has it
@@ -79,9 +87,9 @@ storage_target None path = Nothing
 storage_target (Some user) path = Storage user path
 
 -- the grants of the user, where there is one
-abbrev pub grant_target : Option ℕ → Target
-grant_target None = Nothing
-grant_target (Some user) = Grant user
+abbrev pub grant_target : List ℕ → Option ℕ → Target
+grant_target query None = Nothing
+grant_target query (Some user) = Grant user query
 
 -- what follows `/storage/`: the user's name up to a slash, and then a path
 abbrev pub storage_of : List Account → List ℕ → Target
@@ -89,17 +97,17 @@ storage_of accounts text =
     option_map_or (λ slash. storage_target (account_of accounts (take slash text)) (drop slash text)) (position (λ byte. byte == 47) text) Nothing
 
 -- what follows `/oauth/`: the user's name
-abbrev pub grant_of : List Account → List ℕ → Target
-grant_of accounts name = grant_target (account_of accounts name)
+abbrev pub grant_of : List Account → List ℕ → List ℕ → Target
+grant_of accounts name query = grant_target query (account_of accounts name)
 
-abbrev pub below_oauth : List Account → List ℕ → Target
-below_oauth accounts text = option_map_or (grant_of accounts) (after_prefix (codes "/oauth/") text) Nothing
+abbrev pub below_oauth : List Account → List ℕ → List ℕ → Target
+below_oauth accounts text query = option_map_or (λ name. grant_of accounts name query) (after_prefix (codes "/oauth/") text) Nothing
 
--- what the text of a target is
-unfoldable pub target_of : List Account → List ℕ → Target
-target_of accounts text = if bytes_eq text (codes "*") then Server
-    else (if bytes_eq text (codes "/.well-known/webfinger") then Discovery
-    else option_map_or (storage_of accounts) (after_prefix (codes "/storage/") text) (below_oauth accounts text))
+-- what the text of a target is with this query
+unfoldable pub target_of : List Account → List ℕ → List ℕ → Target
+target_of accounts text query = if bytes_eq text (codes "*") then Server
+    else (if bytes_eq text (codes "/.well-known/webfinger") then Discovery query
+    else option_map_or (storage_of accounts) (after_prefix (codes "/storage/") text) (below_oauth accounts text query))
 
 -- ---- methods
 
@@ -133,7 +141,7 @@ pub record RequestLine : Type 0 where
 -- what a method and a target are, to a server of these users
 abbrev pub request_line_of : List Account → List ℕ → List ℕ → RequestLine
 request_line_of accounts method target = let text = path_part target in
-    record { verb = verb_of method; target = target_of accounts text; shared = is_shared text }
+    record { verb = verb_of method; target = target_of accounts text (query_part target); shared = is_shared text }
 
 -- what the code's request line is
 abbrev pub line_seen : LineRead → RequestLine

@@ -1,6 +1,6 @@
 //! Who is served.
 
-ghost use Rattle.std.specs.Prelude.{◌≡◌, ◌+◌, ◌^◌, ◌<◌, [], ◌∷◌, ◌++◌, length, OnOk, OnErr};
+ghost use Rattle.std.specs.Prelude.{◌≡◌, ◌+◌, ◌^◌, ◌<◌, [], ◌∷◌, ◌++◌, length, OnOk, OnErr, option_copied, slice_get};
 ghost use Rattle.rs_exchange.specs.Accounts.{is_of, account_of};
 
 use rs_path::{Bytes, NoMemory};
@@ -71,6 +71,13 @@ impl Accounts {
         ensures few { length self.now < 2 ^ 32 }
     {
         self.list.as_slice()
+    }
+
+    /// The account of the user with this number, if there is one.
+    pub fn at(&self, user: u32) -> Option<&Account>
+        ensures account { option_copied result ≡ slice_get self.now user }
+    {
+        self.as_slice().get(user as usize)
     }
 
     /// The number of the account with this name, which is compared as it stands.

@@ -5,20 +5,25 @@ ghost use Rattle.std.specs.Result.{result_ok};
 ghost use Rattle.rs_path.specs.Readings.{target_reading};
 ghost use Rattle.rs_exchange.specs.declared.answer.Answer.TheVariants.{Refused};
 ghost use Rattle.rs_exchange.specs.declared.asked.Asked.TheVariants.{Now};
+ghost use Rattle.rs_exchange.specs.Accounts.{IsConfig};
 ghost use Rattle.rs_exchange.specs.Fields.{values_of};
 ghost use Rattle.rs_exchange.specs.Passes.{pass_of};
 ghost use Rattle.rs_exchange.specs.Requests.{asked_line, asked_server, asked_options, asked_path, asked_call, asked_storage};
 ghost use Rattle.rs_exchange.specs.Targets.{line_seen};
 
+use crate::account::Config;
 use crate::answer::Answer;
 use crate::condition::read_cond;
 use crate::content_type::{brings_part, read_kind};
+use crate::discovery::read_discovery;
 use crate::fields::look_up;
+use crate::grant::read_grant;
 use crate::pass::read_pass;
 use crate::refusal::{Methods, Refusal};
 use crate::request_line::RequestLine;
 use crate::target::Target;
 use crate::verb::Verb;
+use rs_grant::Ask;
 use rs_path::{Bytes, NoMemory, Path, PathFault};
 use rs_rules::{Call, Pass, Request};
 use rs_scope::Method;
@@ -32,19 +37,25 @@ pub enum Asked {
     Desk { user: u32, request: Request },
     /// Nothing of a desk: this is the answer.
     Now(Answer),
+    /// A grant that the user with this number consented to, with the user's password: a token of two random words is to have
+    /// the scopes that were asked for.
+    Consent { user: u32, ask: Ask },
 }
 
 /// What a message with this request line, these fields and this body asks. The body is moved on.
 ///
 /// The first that applies: a target that isn't there, a method that isn't the target's, a path that is none, OPTIONS, a
-/// condition that is none, a content type that is none, a part in place of the whole; else the request.
+/// condition that is none, a content type that is none, a part in place of the whole; else the request. Of discovery its
+/// answer is said (RFC 7033, section 4.2), of a grant the page, the redirect that refuses, or the consent.
 pub fn read_request(
     alloc: Global,
+    config: &Config,
     line: RequestLine,
     fields: &[Field],
     body: Bytes,
 ) -> Result<Asked, NoMemory>
-    ensures asked { IfOk result (λ asked. asked ≡ asked_line fields.now body (line_seen line.entry)) }
+    requires config { IsConfig config.now }
+    ensures asked { IfOk result (λ asked. asked ≡ asked_line config.now fields.now body (line_seen line.entry)) }
 {
     match line.target {
         Target::Server => Ok(read_server(line.verb)),
@@ -58,14 +69,16 @@ pub fn read_request(
                 body,
             )
         }
-        Target::Discovery => Ok(refused(Refusal::NotFound)),
-        Target::Grant { .. } => Ok(refused(Refusal::NotFound)),
+        Target::Discovery { query } => read_discovery(alloc, config, line.verb, query),
+        Target::Grant { user, query } => {
+            read_grant(alloc, &config.accounts, user, line.verb, query, body)
+        }
         Target::Nothing => Ok(refused(Refusal::NotFound)),
     }
 }
 
-// The message is refused, and no desk is asked.
-fn refused(refusal: Refusal) -> Asked
+/// The message is refused, and no desk is asked.
+pub(crate) fn refused(refusal: Refusal) -> Asked
     ensures { result ≡ Now (Refused refusal) }
 {
     Asked::Now(Answer::Refused(refusal))

@@ -86,6 +86,8 @@ fn put_own(out: &mut Vec<u8>, fields: OwnFields) -> Result<(), NoMemory>
         OwnFields::Challenge(text) => put_text(out, b"WWW-Authenticate", text),
         OwnFields::Allow(methods) => put_text(out, b"Allow", methods.list()),
         OwnFields::Preflight => put_preflight(out),
+        OwnFields::Typed(kind) => put_text(out, b"Content-Type", kind),
+        OwnFields::Location(address) => put_text(out, b"Location", address),
     }
 }
 

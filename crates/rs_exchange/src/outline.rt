@@ -33,6 +33,10 @@ pub(crate) enum OwnFields<'a> {
     Allow(Methods),
     /// What another origin's page may send.
     Preflight,
+    /// The content type of a text that was made.
+    Typed(&'a [u8]),
+    /// Where the browser goes on.
+    Location(&'a [u8]),
 }
 
 /// What the answer says.
@@ -46,11 +50,13 @@ pub(crate) fn outline_of(answer: &Answer) -> Outline<'_>
         Answer::Decided(reply) => reply_outline(reply),
         Answer::Preflight => said(204, OwnFields::Preflight),
         Answer::Refused(refusal) => refusal_outline(refusal),
+        Answer::Made { sheet, .. } => said(sheet.status(), OwnFields::Typed(sheet.kind())),
+        Answer::Redirect { address } => said(302, OwnFields::Location(address.as_slice())),
     }
 }
 
 // This status with these fields.
-fn said(status: u16, fields: OwnFields) -> Outline
+fn said(status: u16, fields: OwnFields<'_>) -> Outline<'_>
     ensures status { result.status ≡ status }
     ensures fields { own_fields result.fields ≡ own_fields fields.entry }
     ensures short { IsShort fields.entry → IsShort result.fields }
@@ -166,6 +172,8 @@ fn refusal_outline(refusal: &Refusal) -> Outline<'static>
         Refusal::BadCondition => said(400, OwnFields::Nothing),
         Refusal::BadKind => said(400, OwnFields::Nothing),
         Refusal::PartOnly => said(400, OwnFields::Nothing),
+        Refusal::BadResource => said(400, OwnFields::Nothing),
+        Refusal::BadAddress => said(400, OwnFields::Nothing),
     }
 }
 

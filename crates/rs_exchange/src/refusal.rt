@@ -43,4 +43,8 @@ pub enum Refusal {
     BadKind,
     /// 400: a PUT has a Content-Range, and so brings a part of a document (RFC 9110, section 14.5).
     PartOnly,
+    /// 400: a discovery query has not one `resource`, or one that is no URI (RFC 7033, section 4.2).
+    BadResource,
+    /// 400: a grant is asked for without one address of an app to go back to (RFC 6749, section 4.2.2.1).
+    BadAddress,
 }

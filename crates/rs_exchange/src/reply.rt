@@ -31,8 +31,8 @@ pub fn head_room(alloc: Global) -> Result<Vec<u8>, NoMemory>
     Ok(Vec::with_capacity(alloc, HEAD_ROOM)?)
 }
 
-/// The bytes of the reply that an answer is, its head in that room. A document's body is moved on; a folder's description is
-/// made. Memory is wanted for these two alone.
+/// The bytes of the reply that an answer is, its head in that room. A body that the answer has is moved on; a folder's
+/// description is made. Memory is wanted for an answer with a part of any length alone, which no answer to a write has.
 pub fn write_answer(
     alloc: Global,
     room: Vec<u8>,
@@ -88,6 +88,7 @@ fn size_of(answer: &Answer, listing: &[u8]) -> usize
 {
     match answer {
         Answer::Decided(Reply::Found { body, .. }) => body.as_slice().len(),
+        Answer::Made { text, .. } => text.as_slice().len(),
         _ => listing.len(),
     }
 }
@@ -111,6 +112,7 @@ fn into_body(answer: Answer, listing: Bytes) -> Bytes
 {
     match answer {
         Answer::Decided(Reply::Found { body, .. }) => body,
+        Answer::Made { text, .. } => text,
         _ => listing,
     }
 }

@@ -4,7 +4,7 @@ ghost use Rattle.std.specs.Prelude.{◌≡◌};
 ghost use Rattle.rs_exchange.specs.Targets.{is_shared, request_line_of, line_seen};
 
 use crate::account::Accounts;
-use crate::target::{Target, path_part, target_of};
+use crate::target::{Target, target_of, target_parts};
 use crate::verb::{Verb, verb_of};
 
 /// What the request line of a message is, to a server of some users.
@@ -20,10 +20,10 @@ pub struct RequestLine<'a> {
 pub fn read_line<'a>(accounts: &Accounts, method: &[u8], target: &'a [u8]) -> RequestLine<'a>
     ensures line { line_seen result ≡ request_line_of accounts.now method.now target.now }
 {
-    let text = path_part(target);
+    let (text, query) = target_parts(target);
     RequestLine {
         verb: verb_of(method),
-        target: target_of(accounts, text),
+        target: target_of(accounts, text, query),
         shared: is_shared(text),
     }
 }

@@ -1,7 +1,7 @@
 //! The targets of requests.
 
 ghost use Rattle.std.specs.Prelude.{◌≡◌, ◌<◌, ◌==◌, length, position, option_map, IfSome};
-ghost use Rattle.rs_exchange.specs.Targets.{after_prefix, after_scheme, after_name, is_authority_end, from_path, without_origin, before_query, path_part, storage_of, grant_of, below_oauth, target_of, target_seen};
+ghost use Rattle.rs_exchange.specs.Targets.{after_prefix, after_scheme, after_name, is_authority_end, from_path, without_origin, before_query, behind_query, path_part, query_part, storage_of, grant_of, below_oauth, target_of, target_seen};
 
 use crate::account::Accounts;
 use rs_wire::same_name;
@@ -14,28 +14,31 @@ pub enum Target<'a> {
     /// `/storage/USER` and a text that begins with `/`: in the storage of the user with this number, the document or the
     /// folder whose path the text is to be.
     Storage { user: u32, path: &'a [u8] },
-    /// Where users are found: `/.well-known/webfinger` (RFC 7033, section 4).
-    Discovery,
-    /// Where the user with this number grants access: `/oauth/USER` (RFC 6749, section 3.1).
-    Grant { user: u32 },
+    /// Where users are found: `/.well-known/webfinger` (RFC 7033, section 4), with its query.
+    Discovery { query: &'a [u8] },
+    /// Where the user with this number grants access: `/oauth/USER` (RFC 6749, section 3.1), with its query.
+    Grant { user: u32, query: &'a [u8] },
     /// Nothing that is here.
     Nothing,
 }
 
-/// The target without `http://` or `https://` and an authority, where it begins so, and without its query.
-#[tactic(auto, unfolding(crate::specs::Targets::path_part))]
-pub fn path_part(target: &[u8]) -> &[u8]
-    ensures text { result.now ≡ path_part target.now }
+/// The target without `http://` or `https://` and an authority, where it begins so, cut at its first `?`: what stands before
+/// that, and the query behind it.
+#[tactic(auto, unfolding(crate::specs::Targets::path_part, crate::specs::Targets::query_part))]
+pub fn target_parts(target: &[u8]) -> (&[u8], &[u8])
+    ensures text { result.0.now ≡ path_part target.now }
+    ensures query { result.1.now ≡ query_part target.now }
 {
-    before_query(without_origin(target))
+    cut_query(without_origin(target))
 }
 
-fn before_query(text: &[u8]) -> &[u8]
-    ensures front { result.now ≡ before_query text.now }
+fn cut_query(text: &[u8]) -> (&[u8], &[u8])
+    ensures front { result.0.now ≡ before_query text.now }
+    ensures rest { result.1.now ≡ behind_query text.now }
 {
     match first(text, b'?') {
-        Some(end) => &text[..end],
-        None => text,
+        Some(end) => (&text[..end], &text[end + 1..]),
+        None => (text, &[]),
     }
 }
 
@@ -103,20 +106,20 @@ fn first(text: &[u8], wanted: u8) -> Option<usize>
     text.iter().position(|byte| *byte == wanted)
 }
 
-/// What the text of a target is, to a server of these users.
+/// What the text of a target is with this query, to a server of these users.
 #[tactic(auto, unfolding(crate::specs::Targets::target_of))]
-pub fn target_of<'a>(accounts: &Accounts, text: &'a [u8]) -> Target<'a>
-    ensures target { target_seen result ≡ target_of accounts.now text.now }
+pub fn target_of<'a>(accounts: &Accounts, text: &'a [u8], query: &'a [u8]) -> Target<'a>
+    ensures target { target_seen result ≡ target_of accounts.now text.now query.now }
 {
     if text == b"*".as_slice() {
         return Target::Server;
     }
     if text == b"/.well-known/webfinger".as_slice() {
-        return Target::Discovery;
+        return Target::Discovery { query };
     }
     match after_prefix(b"/storage/", text) {
         Some(rest) => storage_of(accounts, rest),
-        None => below_oauth(accounts, text),
+        None => below_oauth(accounts, text, query),
     }
 }
 
@@ -136,20 +139,20 @@ fn storage_of<'a>(accounts: &Accounts, text: &'a [u8]) -> Target<'a>
     }
 }
 
-fn below_oauth<'a>(accounts: &Accounts, text: &'a [u8]) -> Target<'a>
-    ensures target { target_seen result ≡ below_oauth accounts.now text.now }
+fn below_oauth<'a>(accounts: &Accounts, text: &[u8], query: &'a [u8]) -> Target<'a>
+    ensures target { target_seen result ≡ below_oauth accounts.now text.now query.now }
 {
     match after_prefix(b"/oauth/", text) {
-        Some(name) => grant_of(accounts, name),
+        Some(name) => grant_of(accounts, name, query),
         None => Target::Nothing,
     }
 }
 
-fn grant_of<'a>(accounts: &Accounts, name: &'a [u8]) -> Target<'a>
-    ensures target { target_seen result ≡ grant_of accounts.now name.now }
+fn grant_of<'a>(accounts: &Accounts, name: &[u8], query: &'a [u8]) -> Target<'a>
+    ensures target { target_seen result ≡ grant_of accounts.now name.now query.now }
 {
     match accounts.find(name) {
-        Some(user) => Target::Grant { user },
+        Some(user) => Target::Grant { user, query },
         None => Target::Nothing,
     }
 }

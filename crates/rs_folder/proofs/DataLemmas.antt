@@ -1,5 +1,5 @@
 -- The items of a folder as members of an object, in the order of their keys.
-use Rattle.std.proofs.Common.{◌≡◌, ℕ, ◌+◌, ◌<◌, true, List, [], ◌∷◌, ◌++◌, length, take, drop, get_or, refl, sym, ap, ◌∙◌, take-append-drop}
+use Rattle.std.proofs.Common.{◌≡◌, true, List, [], ◌∷◌, ◌++◌, refl, ap, ◌∙◌}
 use Rattle.std.specs.declared.cmp.Ordering.{Ordering}
 use Rattle.std.specs.declared.cmp.Ordering.TheVariants.{Less, Equal, Greater}
 use Rattle.std.specs.List.{list_all}
@@ -7,11 +7,10 @@ use Rattle.std.specs.Ordering.{nat_cmp, is_lt, ordering_reverse}
 use Rattle.std.specs.Cmp.Lexicographic.{slice_cmp}
 use Rattle.std.proofs.lemmas.Bool.{and_parts}
 use Rattle.std.proofs.lemmas.Cmp.{nat_list_cmp_total}
-use Rattle.std.proofs.lemmas.List.{take_more, drop_more}
 use Rattle.serde_json.specs.Data.{member, put}
 use Rattle.rs_path.specs.declared.entry.Entry.{Entry}
 use Rattle.rs_path.specs.Items.{entry_key, comes_before, is_ascending}
-use Rattle.rs_folder.specs.FolderData.{entry_data, items_data}
+use Rattle.rs_folder.proofs.FolderData.{entry_data, items_data}
 
 pub is_less : (o : Ordering) → is_lt o ≡ true → o ≡ Less
 is_less Less h = refl
@@ -34,12 +33,3 @@ put_behind (d ∷ done) e more h =
     let above : slice_cmp nat_cmp (entry_key e) (entry_key d) ≡ Greater =
     nat_list_cmp_total.antisymm (entry_key e) (entry_key d) ∙ ap ordering_reverse less in
     rw above (ap (member (entry_key d) (entry_data d)) (put_behind done e more parts.1))
-
--- the same of the next of a list
-pub put_next : (entries : List Entry) (i : ℕ) (e : Entry) → i < length entries → e ≡ get_or entries i e → is_ascending entries ≡ true
-    → put (entry_key e) (entry_data e) (items_data (take i entries)) ≡ items_data (take (i + 1) entries)
-put_next entries i e within here ascending =
-    let split : entries ≡ take i entries ++ e ∷ drop (i + 1) entries =
-    sym (take-append-drop i entries) ∙ ap (λ rest. take i entries ++ rest) (drop_more entries i e within ∙ ap (λ x. x ∷ drop (i + 1) entries) (sym here)) in
-    put_behind (take i entries) e (drop (i + 1) entries) (ap is_ascending (sym split) ∙ ascending)
-    ∙ ap items_data (ap (λ x. take i entries ++ x ∷ []) here ∙ sym (take_more entries i e within))

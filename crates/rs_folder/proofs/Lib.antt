@@ -1,5 +1,7 @@
+mod FolderData
 mod DataLemmas
 mod TextLemmas
+mod TokenLemmas
 mod PartLemmas
 mod Utf8Lemmas
 mod ValueLemmas

@@ -16,7 +16,7 @@ use Rattle.rs_path.specs.Items.{entry_key, is_item, is_ascending, holds_of, is_e
 use Rattle.rs_path.specs.Readings.{is_slash}
 use Rattle.rs_path.proofs.Cited.{name_without_slash}
 use Rattle.rs_folder.specs.Descriptions.{folder_text}
-use Rattle.rs_folder.specs.FolderData.{tag_data, kind_data, length_data, entry_data, items_data}
+use Rattle.rs_folder.proofs.FolderData.{tag_data, kind_data, length_data, entry_data, items_data}
 use Rattle.rs_folder.specs.FolderReadings.{is_folder_key, key_name, item_tag, item_kind, item_length, item_with, entry_reading, items_from, folder_reading}
 use Rattle.rs_folder.proofs.PartLemmas.{HasParts-from}
 use Rattle.rs_folder.proofs.Utf8Lemmas.{folder_utf8}

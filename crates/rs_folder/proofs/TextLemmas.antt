@@ -3,11 +3,11 @@ use Rattle.std.proofs.Common.{◌≡◌, ℕ, true, false, List, [], ◌∷◌, 
 use Rattle.std.specs.List.{flat_map}
 use Rattle.json.specs.Print.{quoted}
 use Rattle.serde_json.specs.Data.{string, object, Members, no_members, member}
-use Rattle.serde_json.specs.Written.{has_float, members_have_float, compact_text, members_text}
+use Rattle.serde_json.specs.Written.{compact_text, members_text}
 use Rattle.rs_path.specs.declared.entry.Entry.{Entry}
 use Rattle.rs_path.specs.Items.{entry_key}
 use Rattle.rs_folder.specs.Descriptions.{member_text, with_commas, braced, length_members, kind_members, tag_members, entry_text, context, folder_text}
-use Rattle.rs_folder.specs.FolderData.{tag_data, kind_data, length_data, entry_data, items_data, folder_data}
+use Rattle.rs_folder.proofs.FolderData.{tag_data, kind_data, length_data, entry_data, items_data, folder_data}
 
 -- each member's text
 abbrev pieces : Members → List (List ℕ)
@@ -52,18 +52,3 @@ folder_data-text items =
     object_text (member (codes "@context") (string context) (member (codes "items") (object (items_data items)) no_members))
     ∙ ap (λ s. braced (member_text (codes "@context") (quoted context) ∷ member_text (codes "items") s ∷ []))
     (object_text (items_data items) ∙ ap braced (items_pieces items))
-
--- ---- no number is a float
-
-entry_whole : (length : Option ℕ) (kind : Option (List ℕ)) (tag : List ℕ) → members_have_float (length_data length (kind_data kind (tag_data tag))) ≡ false
-entry_whole None None tag = refl
-entry_whole None (Some kind) tag = refl
-entry_whole (Some n) None tag = refl
-entry_whole (Some n) (Some kind) tag = refl
-
-items_whole : (items : List Entry) → members_have_float (items_data items) ≡ false
-items_whole [] = refl
-items_whole (e ∷ es) = rw (entry_whole e.length e.kind e.tag) (items_whole es)
-
-pub folder_data-whole : (items : List Entry) → has_float (folder_data items) ≡ false
-folder_data-whole items = rw (items_whole items) refl

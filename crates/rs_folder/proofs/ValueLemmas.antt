@@ -18,7 +18,7 @@ use Rattle.serde_json.proofs.Texts.{print-outline}
 use Rattle.rs_path.specs.declared.entry.Entry.{Entry}
 use Rattle.rs_path.specs.Items.{is_ascending, holds_of, is_u64, is_entry}
 use Rattle.rs_folder.specs.Descriptions.{folder_text}
-use Rattle.rs_folder.specs.FolderData.{tag_data, kind_data, length_data, items_data, folder_data}
+use Rattle.rs_folder.proofs.FolderData.{tag_data, kind_data, length_data, items_data, folder_data}
 use Rattle.rs_folder.proofs.DataLemmas.{put_behind}
 use Rattle.rs_folder.proofs.PartLemmas.{HasParts-from}
 use Rattle.rs_folder.proofs.TextLemmas.{folder_data-text}

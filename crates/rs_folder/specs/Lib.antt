@@ -1,4 +1,4 @@
 pub mod Descriptions
-pub mod FolderData
+pub mod FolderTokens
 pub mod FolderReadings
 pub mod Keys

@@ -1,16 +1,16 @@
 //! Folder descriptions written.
 
-ghost use Rattle.std.specs.Prelude.{◌≡◌, ◌++◌, Ok, IfOk, OnOk, OnErr, IsTrue, string_bytes};
-ghost use Rattle.serde_json.specs.View.{members_view};
-ghost use Rattle.rs_path.specs.Items.{is_ascending};
+ghost use Rattle.std.specs.Prelude.{◌≡◌, ◌++◌, Ok, OnOk, OnErr};
+ghost use Rattle.std.specs.List.{flat_map};
 ghost use Rattle.rs_folder.specs.Descriptions.{folder_text};
-ghost use Rattle.rs_folder.specs.FolderData.{items_data};
+ghost use Rattle.rs_folder.specs.FolderTokens.{entry_tokens, opening_tokens, closing_tokens, folder_tokens};
 ghost use Rattle.rs_folder.specs.FolderReadings.{folder_reading};
 
-use crate::describing::{description_of, key_of};
+use crate::describing::put_entry;
+use json::Writer;
 use rs_path::{Entry, Items, NoMemory};
-use serde_json::{Map, Value, put};
 use std::alloc::Global;
+use std::mem;
 
 /// What `@context` says of a folder description (draft-dejong-remotestorage, section 4).
 pub const CONTEXT: &str = "http://remotestorage.io/spec/folder-description";
@@ -25,41 +25,62 @@ pub fn write_folder(alloc: Global, items: &Items, out: &mut Vec<u8>) -> Result<(
     ensures err { OnErr result (out.new.items ≡ out.old.items) }
     ensures back { folder_reading (folder_text items.now) ≡ Ok items.now }
 {
-    let text = text_of(alloc, items.as_slice())?;
-    out.extend_from_slice(text.as_bytes())?;
+    let before = out.len();
+    let mut writer = Writer::new(mem::replace(out, Vec::new(alloc)));
+    match put_folder(alloc, items.as_slice(), &mut writer) {
+        Ok(()) => {
+            *out = writer.into_inner();
+            Ok(())
+        }
+        Err(fault) => {
+            *out = writer.into_inner();
+            out.truncate(before);
+            Err(fault)
+        }
+    }
+}
+
+fn put_folder(alloc: Global, entries: &[Entry], writer: &mut Writer) -> Result<(), NoMemory>
+    ensures before { writer.new.before ≡ writer.old.before }
+    ensures tokens { OnOk result (writer.new.tokens ≡ writer.old.tokens ++ folder_tokens entries.now) }
+{
+    put_opening(writer)?;
+    put_items(alloc, entries, writer)?;
+    put_closing(writer)?;
     Ok(())
 }
 
-fn text_of(alloc: Global, entries: &[Entry]) -> Result<String, NoMemory>
-    requires { IsTrue (is_ascending entries.now) }
-    ensures { IfOk result (λ text. string_bytes text ≡ folder_text entries.now) }
+#[tactic(auto, using(std::proofs::Common::append_assoc))]
+fn put_opening(writer: &mut Writer) -> Result<(), NoMemory>
+    ensures before { writer.new.before ≡ writer.old.before }
+    ensures tokens { OnOk result (writer.new.tokens ≡ writer.old.tokens ++ opening_tokens) }
 {
-    let items = Value::from(members_of(alloc, entries)?);
-    let mut members = Map::new(alloc);
-    put(
-        &mut members,
-        alloc,
-        "@context",
-        Value::try_from_str(alloc, CONTEXT)?,
-    )?;
-    put(&mut members, alloc, "items", items)?;
-    Ok(Value::from(members).to_string(alloc)?)
+    writer.begin_object()?;
+    writer.key("@context")?;
+    writer.string(CONTEXT)?;
+    writer.key("items")?;
+    writer.begin_object()?;
+    Ok(())
 }
 
-// What is said of each item, at its key.
-fn members_of(alloc: Global, entries: &[Entry]) -> Result<Map<String, Value>, NoMemory>
-    requires { IsTrue (is_ascending entries.now) }
-    ensures { IfOk result (λ members. members_view members.entries ≡ items_data entries.now) }
+#[tactic(auto, using(std::proofs::Common::append_assoc))]
+fn put_closing(writer: &mut Writer) -> Result<(), NoMemory>
+    ensures before { writer.new.before ≡ writer.old.before }
+    ensures tokens { OnOk result (writer.new.tokens ≡ writer.old.tokens ++ closing_tokens) }
 {
-    let mut members = Map::new(alloc);
+    writer.end_object()?;
+    writer.end_object()?;
+    Ok(())
+}
+
+// Each item, at its key.
+fn put_items(alloc: Global, entries: &[Entry], writer: &mut Writer) -> Result<(), NoMemory>
+    ensures before { writer.new.before ≡ writer.old.before }
+    ensures tokens { OnOk result (writer.new.tokens ≡ writer.old.tokens ++ flat_map entry_tokens entries.now) }
+{
+    let mut room = String::new(alloc);
     for entry in entries {
-        let key = key_of(alloc, entry)?;
-        put(
-            &mut members,
-            alloc,
-            key.as_str(),
-            description_of(alloc, entry)?,
-        )?;
+        put_entry(entry, &mut room, writer)?;
     }
-    Ok(members)
+    Ok(())
 }

@@ -12,7 +12,7 @@ use Rattle.rs_request.specs.declared.reader.RequestReader.{RequestReader}
 use Rattle.rs_request.specs.Division.{message_at, Divides}
 use Rattle.rs_request.specs.Laws.{fed_at}
 use Rattle.rs_request.specs.Readers.{Stands}
-use Rattle.rs_exchange.specs.declared.account.Account.{Account}
+use Rattle.rs_exchange.specs.declared.account.Config.{Config}
 use Rattle.rs_front.specs.declared.input.Next.TheVariants as next
 use Rattle.rs_front.specs.declared.serve.End.{End}
 use Rattle.rs_front.specs.declared.serve.End.TheVariants.{Closed, Limit, ReadFault, NoMemory, BadMessage}
@@ -27,7 +27,7 @@ use Rattle.rs_exchange.specs.Manners.{max_replies, manner_of}
 use Rattle.rs_front.specs.Rests.{pending}
 use Rattle.rs_front.specs.Sending.{IsCutOff, EndsWith, end_of}
 use Rattle.rs_front.specs.Settling.{RepliesTo}
-use Rattle.rs_front.proofs.DueLemmas.{at, along_push, due_more, due_stays, goes_later, faults_push}
+use Rattle.rs_front.proofs.DueLemmas.{at, along_push, due_more, due_stays, goes_later, faults_push, known_none, draws_push}
 use Rattle.rs_front.proofs.InputLemmas.{on, Laws, read_shortly}
 use Rattle.rs_front.proofs.SendLemmas.{cut_off}
 
@@ -55,8 +55,8 @@ PushLaw = (ms : List RequestMessage) (m : RequestMessage) (place : ℕ) (bytes :
 -- ---- so far
 
 -- so many messages were read and replied to, and none of them asks to close
-pub record SoFar (users : Users) (accounts : List Account) (source sink wants : Course (List ℕ)) (old : ℕ → History) (before now : ℕ) (reader : RequestReader) (count : ℕ) : Type 0 where
-  pub served : Served users accounts source sink old before now
+pub record SoFar (users : Users) (config : Config) (source sink wants entropy : Course (List ℕ)) (old : ℕ → History) (before now : ℕ) (reader : RequestReader) (count : ℕ) : Type 0 where
+  pub served : Served users config source sink entropy old before now
   pub counted : length served.messages ≡ count
   pub going : closes served.messages ≡ false
   pub wrote_due : served.wrote ≡ due_of served
@@ -67,11 +67,12 @@ pub record SoFar (users : Users) (accounts : List Account) (source sink wants : 
   pub shortly : IsReadShortly served
 
 -- nothing was read or written
-pub nothing_served : (quota me : ℕ → ℕ) (alone : Bool) (accounts : List Account) (old : ℕ → History) (reader : RequestReader) (left written : Option (List ℕ)) (n m w k : ℕ)
+pub nothing_served : (quota me : ℕ → ℕ) (alone : Bool) (config : Config) (old : ℕ → History) (reader : RequestReader) (left written words : Option (List ℕ)) (n m w e k : ℕ)
     → Stands reader (fed_at 0 [] false)
-    → SoFar (record { history = old; quota = quota; me = me; alone = alone }) accounts (record { old = left; new = left; before = n; now = n })
-    (record { old = written; new = written; before = m; now = m }) (record { old = written; new = written; before = w; now = w }) old k k reader 0
-nothing_served quota me alone accounts old reader left written n m w k stands = record {
+    → SoFar (record { history = old; quota = quota; me = me; alone = alone }) config (record { old = left; new = left; before = n; now = n })
+    (record { old = written; new = written; before = m; now = m }) (record { old = written; new = written; before = w; now = w })
+    (record { old = words; new = words; before = e; now = e }) old k k reader 0
+nothing_served quota me alone config old reader left written words n m w e k stands = record {
   served = record {
     read = [];
     wrote = [];
@@ -84,6 +85,7 @@ nothing_served quota me alone accounts old reader left written n m w k stands = 
     division = (refl, refl);
     along = λ user. refl;
     unkept = omega arith;
+    drawn = record { words = known_none words; failed = omega arith };
     few = omega arith;
     open_so_far = tt;
   };
@@ -98,23 +100,23 @@ nothing_served quota me alone accounts old reader left written n m w k stands = 
 }
 
 -- the sink stopped, and counted that
-stopped : (users : Users) (accounts : List Account) (source sink wants : Course (List ℕ)) (old : ℕ → History) (before now : ℕ)
-    (served : Served users accounts source sink old before now) (said : End) → IsCut served → IsCutOff sink wants said
-    → Serves users accounts source sink wants old before now said
-stopped users accounts source sink wants old before now served said cut why = elim why [
-  | inl failed ↦ subst (Serves users accounts source sink wants old before now) (sym failed.0) (served, (failed.1, cut))
-  | inr want ↦ subst (Serves users accounts source sink wants old before now) (sym want.0) (served, inr (want.1, cut))
+stopped : (users : Users) (config : Config) (source sink wants entropy : Course (List ℕ)) (old : ℕ → History) (before now : ℕ)
+    (served : Served users config source sink entropy old before now) (said : End) → IsCut served → IsCutOff sink wants said
+    → Serves users config source sink wants entropy old before now said
+stopped users config source sink wants entropy old before now served said cut why = elim why [
+  | inl failed ↦ subst (Serves users config source sink wants entropy old before now) (sym failed.0) (served, (failed.1, cut))
+  | inr want ↦ subst (Serves users config source sink wants entropy old before now) (sym want.0) (served, inr (want.1, cut))
 ]
 
-module _ (grows : GrowsLaw) (push : PushLaw) (users : Users) (accounts : List Account) (source sink wants : Course (List ℕ)) (old : ℕ → History) (before now : ℕ) (reader : RequestReader) (count : ℕ)
-    (so_far : SoFar users accounts source sink wants old before now reader count) (free : count < max_replies) where
+module _ (grows : GrowsLaw) (push : PushLaw) (users : Users) (config : Config) (source sink wants entropy : Course (List ℕ)) (old : ℕ → History) (before now : ℕ) (reader : RequestReader) (count : ℕ)
+    (so_far : SoFar users config source sink wants entropy old before now reader count) (free : count < max_replies) where
   -- more may come
   further : GoesFurther so_far.served.messages
   further = let c = so_far.counted in (omega (arith, c, free), so_far.going)
 
   -- the same once more was read and written
   abbrev served_to : (left written : Option (List ℕ)) (n k : ℕ) (read all : List ℕ) → Consumes source.new left read → Appends sink.old written all
-      → Served users accounts (on source left n) (on sink written k) old before now
+      → Served users config (on source left n) (on sink written k) entropy old before now
   served_to left written n k read all consumed appended = record {
     read = so_far.served.read ++ read;
     wrote = all;
@@ -127,6 +129,7 @@ module _ (grows : GrowsLaw) (push : PushLaw) (users : Users) (accounts : List Ac
     division = grows so_far.served.messages 0 so_far.served.read read so_far.served.place so_far.served.rest so_far.served.division;
     along = so_far.served.along;
     unkept = so_far.served.unkept;
+    drawn = so_far.served.drawn;
     few = so_far.served.few;
     open_so_far = so_far.served.open_so_far;
   }
@@ -147,7 +150,7 @@ module _ (grows : GrowsLaw) (push : PushLaw) (users : Users) (accounts : List Ac
   pub ends_closed : (reader' : RequestReader) (left written : Option (List ℕ)) (n k w : ℕ)
       → ReadsNext so_far.served.place so_far.served.rest reader' (record { old = source.new; new = left; before = source.now; now = n })
       (record { old = sink.new; new = written; before = sink.now; now = k }) (record { old = sink.new; new = written; before = wants.now; now = w }) next.End
-      → Serves users accounts (on source left n) (on sink written k) (on wants written w) old before now Closed
+      → Serves users config (on source left n) (on sink written k) (on wants written w) entropy old before now Closed
   ends_closed reader' left written n k w reads = (
     served_to left written n k reads.read (so_far.served.wrote ++ []) reads.consumed (wrote_more written [] reads.comes.3),
     (append-nil so_far.served.wrote ∙ so_far.wrote_due, inr (further, reads.comes.1, reads.comes.0, reads.comes.2)),
@@ -156,7 +159,7 @@ module _ (grows : GrowsLaw) (push : PushLaw) (users : Users) (accounts : List Ac
   pub ends_unread : (reader' : RequestReader) (left written : Option (List ℕ)) (n k w : ℕ)
       → ReadsNext so_far.served.place so_far.served.rest reader' (record { old = source.new; new = left; before = source.now; now = n })
       (record { old = sink.new; new = written; before = sink.now; now = k }) (record { old = sink.new; new = written; before = wants.now; now = w }) next.NotRead
-      → Serves users accounts (on source left n) (on sink written k) (on wants written w) old before now ReadFault
+      → Serves users config (on source left n) (on sink written k) (on wants written w) entropy old before now ReadFault
   ends_unread reader' left written n k w reads =
       let tail = pending so_far.served.place (so_far.served.rest ++ reads.read) in (
         served_to left written n k reads.read (so_far.served.wrote ++ tail) reads.consumed (wrote_more written tail reads.comes.2),
@@ -179,16 +182,16 @@ module _ (grows : GrowsLaw) (push : PushLaw) (users : Users) (accounts : List Ac
       → (appended : Appends sink.new written front)
       → IsCutTail (on source left n) so_far.served.place (so_far.served.rest ++ read) front
       → IsCutOff (on sink written k) (on wants written w) said
-      → Serves users accounts (on source left n) (on sink written k) (on wants written w) old before now said
+      → Serves users config (on source left n) (on sink written k) (on wants written w) entropy old before now said
   cut_behind left written n k w read front said consumed appended tail cut =
       let served = served_to left written n k read (so_far.served.wrote ++ front) consumed (wrote_more written front appended) in
       let behind : IsCut served = inr (record { front = front; further = further; wrote = due_with front; tail = tail }) in
-      stopped users accounts (on source left n) (on sink written k) (on wants written w) old before now served said behind cut
+      stopped users config (on source left n) (on sink written k) (on wants written w) entropy old before now served said behind cut
 
   pub ends_unwritten : (reader' : RequestReader) (left written : Option (List ℕ)) (n k w : ℕ) (why : SinkFault)
       → ReadsNext so_far.served.place so_far.served.rest reader' (record { old = source.new; new = left; before = source.now; now = n })
       (record { old = sink.new; new = written; before = sink.now; now = k }) (record { old = sink.new; new = written; before = wants.now; now = w }) (next.NotWritten why)
-      → Serves users accounts (on source left n) (on sink written k) (on wants written w) old before now (end_of why)
+      → Serves users config (on source left n) (on sink written k) (on wants written w) entropy old before now (end_of why)
   ends_unwritten reader' left written n k w why reads =
       let tail = pending so_far.served.place (so_far.served.rest ++ reads.read) in
       cut_behind left written n k w reads.read (take reads.comes.0.0 tail) (end_of why) reads.consumed reads.comes.0.1
@@ -203,13 +206,13 @@ module _ (grows : GrowsLaw) (push : PushLaw) (users : Users) (accounts : List Ac
       → ((front : List ℕ) → IsPrefixOf front last → IsCutTail (on source left n) so_far.served.place (so_far.served.rest ++ read) (first ++ front))
       → EndsWith (record { old = mid; new = written; before = j; now = k }) (record { old = mid; new = written; before = v; now = w }) last end said
       → ((appended : Appends sink.old written (so_far.served.wrote ++ (first ++ last)))
-      → EndsSo users accounts (on source left n) (on sink written k) (on wants written w) old before now
+      → EndsSo users config (on source left n) (on sink written k) (on wants written w) entropy old before now
       (served_to left written n k read (so_far.served.wrote ++ (first ++ last)) consumed appended) end)
-      → Serves users accounts (on source left n) (on sink written k) (on wants written w) old before now said
+      → Serves users config (on source left n) (on sink written k) (on wants written w) entropy old before now said
   ends_with left mid written n j k v w read first last end said consumed wrote sinks wanted tail ends whole = elim ends [
     | inl all ↦
         let appended = wrote_more written (first ++ last) (Appends-trans sink.new mid written first last wrote all.0) in
-        subst (Serves users accounts (on source left n) (on sink written k) (on wants written w) old before now) (sym all.1)
+        subst (Serves users config (on source left n) (on sink written k) (on wants written w) entropy old before now) (sym all.1)
         (served_to left written n k read (so_far.served.wrote ++ (first ++ last)) consumed appended, whole appended)
     | inr front ↦
         cut_behind left written n k w read (first ++ take front.0.0 last) said consumed
@@ -223,7 +226,7 @@ module _ (grows : GrowsLaw) (push : PushLaw) (users : Users) (accounts : List Ac
       (record { old = sink.new; new = mid; before = sink.now; now = j }) (record { old = sink.new; new = mid; before = wants.now; now = v }) (next.Bad f)
       → sink.now ≤ j → wants.now ≤ v
       → EndsWith (record { old = mid; new = written; before = j; now = k }) (record { old = mid; new = written; before = v; now = w }) (fault_bytes f.why) (BadMessage f) said
-      → Serves users accounts (on source left n) (on sink written k) (on wants written w) old before now said
+      → Serves users config (on source left n) (on sink written k) (on wants written w) entropy old before now said
   ends_bad reader' left mid written n j k v w f said reads sinks wanted ends =
       let tail = pending so_far.served.place (so_far.served.rest ++ reads.read) in
       ends_with left mid written n j k v w reads.read tail (fault_bytes f.why) (BadMessage f) said reads.consumed reads.comes.1 sinks wanted
@@ -235,14 +238,14 @@ module _ (grows : GrowsLaw) (push : PushLaw) (users : Users) (accounts : List Ac
       (record { old = sink.new; new = mid; before = sink.now; now = j }) (record { old = sink.new; new = mid; before = wants.now; now = v }) next.NoMemory
       → sink.now ≤ j → wants.now ≤ v
       → EndsWith (record { old = mid; new = written; before = j; now = k }) (record { old = mid; new = written; before = v; now = w }) (starved_bytes true) NoMemory said
-      → Serves users accounts (on source left n) (on sink written k) (on wants written w) old before now said
+      → Serves users config (on source left n) (on sink written k) (on wants written w) entropy old before now said
   ends_starved reader' left mid written n j k v w said reads sinks wanted ends = elim reads.comes [
     | inl none ↦ by_first [] none (inl refl)
     | inr told ↦ by_first (pending so_far.served.place (so_far.served.rest ++ reads.read)) told (inr refl)
   ]
     where
       by_first : (first : List ℕ) → Appends sink.new mid first → IsInterimSoFar so_far.served.place (so_far.served.rest ++ reads.read) first
-          → Serves users accounts (on source left n) (on sink written k) (on wants written w) old before now said
+          → Serves users config (on source left n) (on sink written k) (on wants written w) entropy old before now said
       by_first first wrote so_far' =
           ends_with left mid written n j k v w reads.read first (starved_bytes true) NoMemory said reads.consumed wrote sinks wanted
           (λ front part. inr (inr (first, front, so_far', refl, part))) ends
@@ -250,7 +253,7 @@ module _ (grows : GrowsLaw) (push : PushLaw) (users : Users) (accounts : List Ac
 
   -- ---- a message
 
-  module _ (laws : Laws) (new : ℕ → History) (faults : ℕ) (reader' : RequestReader) (left mid written : Option (List ℕ)) (n j k v w : ℕ) (m : RequestMessage)
+  module _ (laws : Laws) (new : ℕ → History) (faults : ℕ) (reader' : RequestReader) (left mid written words : Option (List ℕ)) (n j k v w e : ℕ) (m : RequestMessage)
       (reads : ReadsNext so_far.served.place so_far.served.rest reader' (record { old = source.new; new = left; before = source.now; now = n })
       (record { old = sink.new; new = mid; before = sink.now; now = j }) (record { old = sink.new; new = mid; before = wants.now; now = v }) (next.Message m)) where
     -- what was read behind the message is less than one read gives
@@ -261,13 +264,14 @@ module _ (grows : GrowsLaw) (push : PushLaw) (users : Users) (accounts : List Ac
 
     -- what the reply says of the message, whether it was written or not
     abbrev Replied : {A E : Type 0} → Result A E → Type 0
-    Replied result = RepliesTo (at users new) accounts count m users.history now faults (record { old = mid; new = written; before = j; now = k }) result
+    Replied result = RepliesTo (at users new) config count m users.history now faults (record { old = entropy.new; new = words; before = entropy.now; now = e })
+        (record { old = mid; new = written; before = j; now = k }) result
 
     abbrev bytes_of : {A E : Type 0} (result : Result A E) → Replied result → List ℕ
-    bytes_of result replied = interim_of m ++ answer_bytes (manner_of count m) (answer_of (at users new) (asked_of accounts m) replied.outcome)
+    bytes_of result replied = interim_of m ++ answer_bytes (manner_of count m) (answer_of (at users new) (asked_of config m) replied.outcome)
 
     abbrev pushed : {A E : Type 0} (result : Result A E) (replied : Replied result) (all : List ℕ) → Appends sink.old written all
-        → Served (at users new) accounts (on source left n) (on sink written k) old before faults
+        → Served (at users new) config (on source left n) (on sink written k) (on entropy words e) old before faults
     pushed result replied all appended = record {
       read = so_far.served.read ++ reads.read;
       wrote = all;
@@ -279,24 +283,25 @@ module _ (grows : GrowsLaw) (push : PushLaw) (users : Users) (accounts : List Ac
       appended = appended;
       division = push so_far.served.messages m 0 (so_far.served.read ++ reads.read) so_far.served.place (so_far.served.rest ++ reads.read) reads.comes.0
           (grows so_far.served.messages 0 so_far.served.read reads.read so_far.served.place so_far.served.rest so_far.served.division) reads.comes.1;
-      along = along_push users users.history new accounts so_far.served.messages so_far.served.outcomes m replied.outcome old so_far.served.along replied.goes_on;
+      along = along_push users users.history new config so_far.served.messages so_far.served.outcomes m replied.outcome old so_far.served.along replied.goes_on;
       unkept = faults_push so_far.served.outcomes replied.outcome before now faults so_far.served.unkept replied.unkept;
+      drawn = draws_push so_far.served.outcomes replied.outcome entropy words e so_far.served.drawn replied.drawn;
       few = let c = so_far.counted in omega (arith, c, free, length-append so_far.served.messages (m ∷ []));
       open_so_far = open_push so_far.served.messages m so_far.going so_far.served.open_so_far;
     }
 
     -- what is due with this message
     due_now : {A E : Type 0} (result : Result A E) (replied : Replied result)
-        → so_far.served.wrote ++ bytes_of result replied ≡ due (at users new) accounts 0 (so_far.served.messages ++ m ∷ []) (so_far.served.outcomes ++ replied.outcome ∷ [])
+        → so_far.served.wrote ++ bytes_of result replied ≡ due (at users new) config 0 (so_far.served.messages ++ m ∷ []) (so_far.served.outcomes ++ replied.outcome ∷ [])
     due_now result replied =
         due_with (bytes_of result replied)
-        ∙ sym (due_more users users.history new accounts so_far.served.messages so_far.served.outcomes m replied.outcome old so_far.served.along replied.goes_on
-        ∙ ap (λ c. due_of so_far.served ++ message_bytes (at users new) accounts c m replied.outcome) so_far.counted)
+        ∙ sym (due_more users users.history new config so_far.served.messages so_far.served.outcomes m replied.outcome old so_far.served.along replied.goes_on
+        ∙ ap (λ c. due_of so_far.served ++ message_bytes (at users new) config c m replied.outcome) so_far.counted)
 
     pub served_more : {A E : Type 0} (x : A) → Replied {A = A} {E = E} (Ok x) → m.close ≡ false → source.now ≤ n → sink.now ≤ k → wants.now ≤ w
-        → SoFar (at users new) accounts (on source left n) (on sink written k) (on wants written w) old before faults reader' (count + 1)
+        → SoFar (at users new) config (on source left n) (on sink written k) (on wants written w) (on entropy words e) old before faults reader' (count + 1)
     served_more {A} {E} x replied open_ source_later sink_later wants_later =
-        let wrote = Appends-trans sink.new mid written (interim_of m) (answer_bytes (manner_of count m) (answer_of (at users new) (asked_of accounts m) replied.outcome)) reads.comes.3 replied.writes in
+        let wrote = Appends-trans sink.new mid written (interim_of m) (answer_bytes (manner_of count m) (answer_of (at users new) (asked_of config m) replied.outcome)) reads.comes.3 replied.writes in
         record {
           served = pushed {A = A} {E = E} (Ok x) replied (so_far.served.wrote ++ bytes_of {A = A} {E = E} (Ok x) replied) (wrote_more written (bytes_of {A = A} {E = E} (Ok x) replied) wrote);
           counted = let c = so_far.counted in omega (arith, c, length-append so_far.served.messages (m ∷ []));
@@ -310,9 +315,9 @@ module _ (grows : GrowsLaw) (push : PushLaw) (users : Users) (accounts : List Ac
         }
 
     pub ends_asked : {A E : Type 0} (x : A) → Replied {A = A} {E = E} (Ok x) → m.close ≡ true
-        → Serves (at users new) accounts (on source left n) (on sink written k) (on wants written w) old before faults Closed
+        → Serves (at users new) config (on source left n) (on sink written k) (on wants written w) (on entropy words e) old before faults Closed
     ends_asked {A} {E} x replied close =
-        let wrote = Appends-trans sink.new mid written (interim_of m) (answer_bytes (manner_of count m) (answer_of (at users new) (asked_of accounts m) replied.outcome)) reads.comes.3 replied.writes in (
+        let wrote = Appends-trans sink.new mid written (interim_of m) (answer_bytes (manner_of count m) (answer_of (at users new) (asked_of config m) replied.outcome)) reads.comes.3 replied.writes in (
           pushed {A = A} {E = E} (Ok x) replied (so_far.served.wrote ++ bytes_of {A = A} {E = E} (Ok x) replied) (wrote_more written (bytes_of {A = A} {E = E} (Ok x) replied) wrote),
           (due_now {A = A} {E = E} (Ok x) replied, inl (closes_push so_far.served.messages m ∙ close, shortly_now)),
         )
@@ -320,15 +325,15 @@ module _ (grows : GrowsLaw) (push : PushLaw) (users : Users) (accounts : List Ac
     -- its reply couldn't be written
     pub ends_unreplied : {A : Type 0} (why : SinkFault) → Replied {A = A} {E = SinkFault} (Err why) → HasCause {A = A} j k fault.Failed (Err why)
         → HasCause {A = A} v w fault.NoMemory (Err why) → sink.now ≤ j → wants.now ≤ v
-        → Serves (at users new) accounts (on source left n) (on sink written k) (on wants written w) old before faults (end_of why)
+        → Serves (at users new) config (on source left n) (on sink written k) (on wants written w) (on entropy words e) old before faults (end_of why)
     ends_unreplied {A} why replied cause want sinks wanted =
-        let reply = answer_bytes (manner_of count m) (answer_of (at users new) (asked_of accounts m) replied.outcome) in
+        let reply = answer_bytes (manner_of count m) (answer_of (at users new) (asked_of config m) replied.outcome) in
         let front = take replied.writes.0 reply in
         let wrote = Appends-trans sink.new mid written (interim_of m) front reads.comes.3 replied.writes.1 in
         let all = so_far.served.wrote ++ (interim_of m ++ front) in
         let served = pushed {A = A} {E = SinkFault} (Err why) replied all (wrote_more written (interim_of m ++ front) wrote) in
-        let goes = goes_later (at users new) (asked_of accounts m) replied.outcome users.history new replied.goes_on in
-        let stays = due_stays users users.history new accounts 0 so_far.served.messages so_far.served.outcomes old so_far.served.along goes in
+        let goes = goes_later (at users new) (asked_of config m) replied.outcome users.history new replied.goes_on in
+        let stays = due_stays users users.history new config 0 so_far.served.messages so_far.served.outcomes old so_far.served.along goes in
         let cut : IsCut served = inl (record {
           messages = so_far.served.messages;
           outcomes = so_far.served.outcomes;
@@ -338,25 +343,25 @@ module _ (grows : GrowsLaw) (push : PushLaw) (users : Users) (accounts : List Ac
           all = refl;
           each = refl;
           wrote = due_with (interim_of m ++ front) ∙ ap (λ (l : List ℕ). l ++ (interim_of m ++ front)) (sym stays);
-          part = subst (λ (c : ℕ). IsPrefixOf front (answer_bytes (manner_of c m) (answer_of (at users new) (asked_of accounts m) replied.outcome)))
+          part = subst (λ (c : ℕ). IsPrefixOf front (answer_bytes (manner_of c m) (answer_of (at users new) (asked_of config m) replied.outcome)))
               (sym so_far.counted) (replied.writes.0, refl);
           shortly = shortly_now;
         }) in
-        stopped (at users new) accounts (on source left n) (on sink written k) (on wants written w) old before faults served (end_of why) cut
+        stopped (at users new) config (on source left n) (on sink written k) (on wants written w) (on entropy words e) old before faults served (end_of why) cut
         (later_cut mid written j k v w (end_of why) sinks wanted
         (cut_off (record { old = mid; new = written; before = j; now = k }) (record { old = mid; new = written; before = v; now = w }) why {A = A} cause want))
 
 -- as many as are served
-pub ends_limit : (users : Users) (accounts : List Account) (source sink wants : Course (List ℕ)) (old : ℕ → History) (before now : ℕ) (reader : RequestReader) (count : ℕ)
-    → SoFar users accounts source sink wants old before now reader count → count ≡ max_replies → Serves users accounts source sink wants old before now Limit
-ends_limit users accounts source sink wants old before now reader count so_far all = (so_far.served, (so_far.counted ∙ all, so_far.going, so_far.wrote_due, so_far.shortly))
+pub ends_limit : (users : Users) (config : Config) (source sink wants entropy : Course (List ℕ)) (old : ℕ → History) (before now : ℕ) (reader : RequestReader) (count : ℕ)
+    → SoFar users config source sink wants entropy old before now reader count → count ≡ max_replies → Serves users config source sink wants entropy old before now Limit
+ends_limit users config source sink wants entropy old before now reader count so_far all = (so_far.served, (so_far.counted ∙ all, so_far.going, so_far.wrote_due, so_far.shortly))
 
 -- what a reply says of users holds where their quotas, numbers and desk are the same
-pub replies_as : (h : ℕ → History) (quota quota' me me' : ℕ → ℕ) (alone alone' : Bool) (accounts : List Account) (count : ℕ) (m : RequestMessage) (old : ℕ → History)
-    (before now : ℕ) (sink : Course (List ℕ)) {A E : Type 0} (result : Result A E) → quota ≡ quota' → me ≡ me' → alone ≡ alone'
-    → RepliesTo (record { history = h; quota = quota; me = me; alone = alone }) accounts count m old before now sink result
-    → RepliesTo (record { history = h; quota = quota'; me = me'; alone = alone' }) accounts count m old before now sink result
-replies_as h quota quota' me me' alone alone' accounts count m old before now sink result a b c replied =
+pub replies_as : (h : ℕ → History) (quota quota' me me' : ℕ → ℕ) (alone alone' : Bool) (config : Config) (count : ℕ) (m : RequestMessage) (old : ℕ → History)
+    (before now : ℕ) (entropy sink : Course (List ℕ)) {A E : Type 0} (result : Result A E) → quota ≡ quota' → me ≡ me' → alone ≡ alone'
+    → RepliesTo (record { history = h; quota = quota; me = me; alone = alone }) config count m old before now entropy sink result
+    → RepliesTo (record { history = h; quota = quota'; me = me'; alone = alone' }) config count m old before now entropy sink result
+replies_as h quota quota' me me' alone alone' config count m old before now entropy sink result a b c replied =
     let same : ◌≡◌ {A = Users} (record { history = h; quota = quota; me = me; alone = alone }) (record { history = h; quota = quota'; me = me'; alone = alone' }) =
     (λ i. record { history = h; quota = a i; me = b i; alone = c i }) in
-    subst (λ (u : Users). RepliesTo u accounts count m old before now sink result) same replied
+    subst (λ (u : Users). RepliesTo u config count m old before now entropy sink result) same replied

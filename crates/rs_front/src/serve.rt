@@ -5,7 +5,7 @@ ghost use Rattle.rs_face.specs.Courses.{course};
 ghost use Rattle.rs_rules.specs.Desks.{ForHistories};
 ghost use Rattle.rs_request.specs.Readers.{Stands};
 ghost use Rattle.rs_request.specs.Readings.{unfed};
-ghost use Rattle.rs_exchange.specs.Accounts.{IsAccount};
+ghost use Rattle.rs_exchange.specs.Accounts.{IsAccount, IsConfig};
 ghost use Rattle.rs_front.specs.Due.{users_of_desk};
 ghost use Rattle.rs_front.specs.Ends.{Serves};
 ghost use Rattle.rs_reply.specs.Writing.{start_text, phrase_of};
@@ -16,7 +16,7 @@ use crate::input::{Next, next_message};
 use crate::sending::send_fixed;
 use crate::settling::reply_to;
 use rs_exchange::{Config, MAX_REPLIES, closing_lines, fault_status, starved_lines};
-use rs_face::{Sink, SinkFault, Source};
+use rs_face::{Entropy, Sink, SinkFault, Source};
 use rs_rules::Desk;
 use rs_wire::{RequestReader, WireFault, one_division, taken_requests, unfinished_requests};
 use std::alloc::Global;
@@ -51,43 +51,53 @@ pub enum End {
 /// failed or wanted memory. The interim reply is written before the body is waited for, and nothing is read behind a message
 /// beyond what the read that brought its end gave.
 ///
-/// The desk serves the user of each account, whose number is its place in the list. It goes on to do so, under the same quotas
+/// For a grant that a user's password allows (RFC 6749, section 4.2), two words of the entropy are drawn: the token that they make
+/// is asked for, and no other. Where the entropy fails, whose count then rises, or the desk doesn't grant the token, the app is told
+/// `server_error`.
+///
+/// The server's address is UTF-8, and its users' names are names of users. The desk serves the user of each account, whose number is its place in the list. It goes on to do so, under the same quotas
 /// and numbers and as alone as before (`Desk::keeps`), so that it can serve the next connection. Over a desk that waits for
 /// nobody, and objects that do, the call returns.
-pub fn serve_stream<S: Source, W: Sink, D: Desk>(
+pub fn serve_stream<S: Source, W: Sink, D: Desk, E: Entropy>(
     alloc: Global,
     config: &Config,
     source: &mut S,
     sink: &mut W,
     desk: &mut D,
+    entropy: &mut E,
 ) -> End
     requires served { (user : ℕ) → IsAccount config.now.accounts user → D.serves desk.old user }
+    requires config { IsConfig config.now }
     ensures serves { ForHistories (IsAccount config.now.accounts) (D.stands desk.old) (D.stands desk.new) (λ old now.
-        Serves (users_of_desk D.quota D.me D.alone desk.old now) config.now.accounts
+        Serves (users_of_desk D.quota D.me D.alone desk.old now) config.now
         (course S.left S.faults source.old source.new)
         (course W.written W.faults sink.old sink.new) (course W.written W.wants sink.old sink.new)
+        (course E.words E.faults entropy.old entropy.new)
         old (D.faults desk.old) (D.faults desk.new) result) }
     ensures is_later { D.is_later desk.old desk.new }
 {
     let mut reader = RequestReader::new(alloc);
-    serve_messages(alloc, config, &mut reader, source, sink, desk)
+    serve_messages(alloc, config, &mut reader, source, sink, desk, entropy)
 }
 
 // Serves the messages of a source of which nothing was read.
-fn serve_messages<S: Source, W: Sink, D: Desk>(
+fn serve_messages<S: Source, W: Sink, D: Desk, E: Entropy>(
     alloc: Global,
     config: &Config,
     reader: &mut RequestReader,
     source: &mut S,
     sink: &mut W,
     desk: &mut D,
+    entropy: &mut E,
 ) -> End
     requires served { (user : ℕ) → IsAccount config.now.accounts user → D.serves desk.old user }
+    requires config { IsConfig config.now }
     requires fresh { Stands reader.old unfed }
     ensures serves { ForHistories (IsAccount config.now.accounts) (D.stands desk.old) (D.stands desk.new) (λ old now.
-        Serves (users_of_desk D.quota D.me D.alone desk.old now) config.now.accounts
+        Serves (users_of_desk D.quota D.me D.alone desk.old now) config.now
         (course S.left S.faults source.old source.new)
         (course W.written W.faults sink.old sink.new) (course W.written W.wants sink.old sink.new)
+        (course E.words E.faults entropy.old entropy.new)
         old (D.faults desk.old) (D.faults desk.new) result) }
     ensures is_later { D.is_later desk.old desk.new }
 {
@@ -104,7 +114,7 @@ fn serve_messages<S: Source, W: Sink, D: Desk>(
             Next::NotWritten(fault) => return end_of(fault),
         };
         let close = message.close;
-        if let Err(fault) = reply_to(alloc, config, desk, message, count, sink) {
+        if let Err(fault) = reply_to(alloc, config, desk, entropy, message, count, sink) {
             return end_of(fault);
         }
         if close {

@@ -45,10 +45,7 @@ fn message(
     let mut fields = Fields::new(alloc);
     for line in lines.lines() {
         if let Some((name, value)) = line.split_once(": ") {
-            fields.push(Field {
-                name: bytes_of(alloc, name)?,
-                value: bytes_of(alloc, value)?,
-            })?;
+            fields.push(Field::new(bytes_of(alloc, name)?, bytes_of(alloc, value)?))?;
         }
     }
     Ok(RequestMessage {

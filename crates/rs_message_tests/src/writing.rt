@@ -27,7 +27,7 @@ fn put(alloc: Global, fields: &mut Fields, name: &[u8], value: &[u8]) -> Result<
 {
     let name = bytes_of(alloc, name)?;
     let value = bytes_of(alloc, value)?;
-    fields.push(Field { name, value })
+    fields.push(Field::new(name, value))
 }
 
 /// The GET of `/` at the host `h`.

@@ -18,11 +18,35 @@ pub struct Bytes {
     held: Held,
 }
 
-// Where the bytes are.
-#[derive(Debug, Drop)]
+// Where the bytes are. They are dropped by one call, so that to whoever drops some it is one step.
+#[derive(Debug)]
 enum Held {
     Own(Vec<u8>),
     Shared(Arc<Vec<u8>>),
+}
+
+impl Drop for Held {
+    fn drop(self) {
+        self.release();
+    }
+}
+
+impl Held {
+    fn release(self) {
+        match self {
+            Held::Own(list) => drop(list),
+            Held::Shared(list) => drop(list),
+        }
+    }
+
+    fn shared(self) -> Held
+        ensures same { bytes_held result ≡ bytes_held self }
+    {
+        match self {
+            Held::Own(list) => share(list),
+            Held::Shared(list) => Held::Shared(list),
+        }
+    }
 }
 
 impl Model for Bytes {
@@ -48,11 +72,8 @@ impl Bytes {
     pub fn shared(self) -> Bytes
         ensures same { result ≡ self }
     {
-        match self.held {
-            Held::Own(list) => Bytes { held: share(list) },
-            Held::Shared(list) => Bytes {
-                held: Held::Shared(list),
-            },
+        Bytes {
+            held: self.held.shared(),
         }
     }
 

@@ -9,22 +9,13 @@ use Rattle.httparse.specs.Grammar.{IsToken, is_token_byte, is_value_byte, LineEn
 use Rattle.rs_request.specs.declared.search.Spot.{Spot}
 use Rattle.rs_request.specs.declared.search.Spot.TheVariants.{Before, Within, Fresh, Turned}
 use Rattle.rs_request.specs.Lines.{is_break, next_spot, first_empty_line, spot_after}
-use Rattle.rs_request.proofs.LinesLemmas.{empty_line_found}
+use Rattle.rs_request.proofs.LinesLemmas.{spot_more, empty_line_found}
 use Rattle.rs_request.proofs.TextLemmas.{test_from_AllPass, lacks, lacks_by, lacks_append, no_token_10, no_token_13}
 
 -- ---- where a search stands after a text
 
 abbrev goes_on : List ℕ → Option Spot → Option Spot
 goes_on xs o = option_and_then (λ next. spot_after next xs) o
-
-pub spot_more : (s t : Spot) (xs ys : List ℕ) → spot_after s xs ≡ Some t → spot_after s (xs ++ ys) ≡ spot_after t ys
-spot_more s t [] ys h = let same : s ≡ t = cc in ap (λ u. spot_after u ys) same
-spot_more s t (x ∷ xs) ys h = step (next_spot s x) (λ u g. spot_more u t xs ys g) h
-  where
-    step : (o : Option Spot) → ((u : Spot) → spot_after u xs ≡ Some t → spot_after u (xs ++ ys) ≡ spot_after t ys)
-        → goes_on xs o ≡ Some t → goes_on (xs ++ ys) o ≡ spot_after t ys
-    step None again h = cc
-    step (Some u) again h = again u h
 
 -- bytes without LF stay within their line
 spot_within : (w : List ℕ) → lacks 10 w ≡ true → spot_after Within w ≡ Some Within

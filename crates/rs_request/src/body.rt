@@ -1,6 +1,6 @@
 //! The body of a request, as its bytes come (RFC 9112, sections 6 and 7.1).
 
-ghost use Rattle.std.specs.Prelude.{◌≡◌, ◌+◌, ◌^◌, ◌<◌, ◌≤◌, ◌==◌, None, min, [], length, take, IfOk, IfSome, OnErr};
+ghost use Rattle.std.specs.Prelude.{◌≡◌, ◌+◌, ◌^◌, ◌<◌, ◌≤◌, ◌==◌, None, min, [], length, take, ◌++◌, IfOk, IfSome, OnOk, OnErr};
 ghost use Rattle.rs_request.specs.Bodies.{has_line_end, first_part, next_part};
 ghost use Rattle.rs_request.specs.ChunkTexts.{size_of};
 ghost use Rattle.rs_request.specs.BodyReaders.{IsMoveWithin, IsPartAt, IsMove, IsLineSought, IsSameBody};
@@ -12,7 +12,7 @@ use crate::chunk::size_of;
 use crate::fault::{WireFault, WireWhy};
 use crate::framing::Framing;
 use crate::limits::{MAX_CHUNK_LINE, MAX_TRAILER};
-use crate::search::{Search, Spot, window};
+use crate::search::{Search, Spot, line_length, window};
 use rs_path::{MAX_BODY, NoMemory};
 use std::alloc::Global;
 
@@ -60,18 +60,33 @@ fn at_most(left: u64, rest: &[u8]) -> usize
     }
 }
 
+/// Puts bytes at the end of a list, the first of so many that are to come: there is room for all of these once there are some,
+/// so that the list doesn't grow as they come.
+fn put_some(list: &mut Vec<u8>, bytes: &[u8], left: u64) -> Result<(), NoMemory>
+    ensures ok { OnOk result (list.new.items ≡ list.old.items ++ bytes.now) }
+    ensures err { OnErr result (list.new.items ≡ list.old.items) }
+{
+    if bytes.is_empty() {
+        return Ok(());
+    }
+    list.reserve(left as usize)?;
+    list.extend_from_slice(bytes)?;
+    Ok(())
+}
+
 /// The number of bytes up to and with the first LF, where there is none in the first `sought` bytes.
 pub fn first_line(bytes: &[u8], sought: usize) -> Option<usize>
     ensures within { IfSome result (λ count. (0 < count) × (count ≤ length bytes.now)) }
     ensures found { sought ≤ length bytes.now → first_line (take sought bytes.now) ≡ None
         → result ≡ first_line bytes.now }
 {
-    for i in sought..bytes.len() {
-        if bytes[i] == b'\n' {
-            return Some(i + 1);
-        }
+    if sought > bytes.len() {
+        return None;
     }
-    None
+    match line_length(&bytes[sought..]) {
+        Some(count) => Some(sought + count),
+        None => None,
+    }
 }
 
 /// Whether CR LF stands at the front.
@@ -121,7 +136,7 @@ impl BodyReader {
         ensures err { OnErr result (IsSameBody self.old self.new) }
     {
         let count = at_most(left, rest);
-        self.body.extend_from_slice(&rest[..count])?;
+        put_some(&mut self.body, &rest[..count], left)?;
         if count as u64 == left {
             return Ok(Move::End(count));
         }
@@ -164,7 +179,7 @@ impl BodyReader {
         ensures err { OnErr result (IsSameBody self.old self.new) }
     {
         let count = at_most(left, rest);
-        self.body.extend_from_slice(&rest[..count])?;
+        put_some(&mut self.body, &rest[..count], left)?;
         self.part = Part::Data(left - count as u64);
         if (count as u64) < left {
             return Ok(Move::Wait(count));

@@ -1,7 +1,8 @@
 //! The fields of a message (RFC 9110, section 5).
 
-ghost use Rattle.std.specs.Prelude.{◌≡◌, [], ◌∷◌, ◌++◌, OnOk, OnErr};
+ghost use Rattle.std.specs.Prelude.{◌≡◌, [], ◌∷◌, ◌++◌, IfOk, OnOk, OnErr};
 
+use crate::text_part::TextPart;
 use rs_path::{Bytes, NoMemory};
 use std::alloc::Global;
 use std::marker::Model;
@@ -9,8 +10,20 @@ use std::marker::Model;
 /// A field of a message: a name and a value without white space around it.
 #[derive(Debug, Drop, PartialEq, Eq)]
 pub struct Field {
-    pub name: Bytes,
-    pub value: Bytes,
+    pub name: TextPart,
+    pub value: TextPart,
+}
+
+impl Field {
+    /// A field of this name and this value.
+    pub fn new(name: Bytes, value: Bytes) -> Field
+        ensures { result ≡ record { name = name; value = value } }
+    {
+        Field {
+            name: TextPart::of(name),
+            value: TextPart::of(value),
+        }
+    }
 }
 
 /// The fields of a message, in their order. A contract sees them as their list.
@@ -36,6 +49,14 @@ impl Fields {
         Fields {
             list: Vec::new(alloc),
         }
+    }
+
+    /// No fields, and room for so many.
+    pub(crate) fn with_room(alloc: Global, count: usize) -> Result<Fields, NoMemory>
+        ensures { IfOk result (λ fields. fields ≡ []) }
+    {
+        let list = Vec::with_capacity(alloc, count)?;
+        Ok(Fields { list })
     }
 
     /// Puts a field at the end. Where there is no memory, the field is dropped.

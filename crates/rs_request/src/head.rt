@@ -1,7 +1,8 @@
 //! The head of a request (RFC 9112, sections 3 and 5).
 
-ghost use Rattle.std.specs.Prelude.{◌≡◌, ◌+◌, ◌*◌, ◌<◌, ◌==◌, length, map, take, None, IfOk, IfNone, IfSome, All};
+ghost use Rattle.std.specs.Prelude.{◌≡◌, ◌<◌, ◌==◌, [], length, map, take, None, IfOk, IfNone, IfSome, All};
 ghost use Rattle.std.specs.List.{list_all, list_any};
+ghost use Rattle.httparse.specs.Grammar.{RequestHead, ReadsRequest};
 ghost use Rattle.httparse.specs.Spans.{IsWithin, IsHeaderWithin, header_bytes, span_bytes};
 ghost use Rattle.rs_request.specs.Limits.{max_head};
 ghost use Rattle.rs_request.specs.Lines.{is_break, past_breaks};
@@ -15,6 +16,7 @@ use crate::framing::{Framing, ends_connection, expects_interim, head_framing};
 use crate::limits::{MAX_FIELDS, MAX_HEAD};
 use crate::message::RequestMessage;
 use crate::search::{Search, Spot, window};
+use crate::text_part::TextPart;
 use httparse::Status;
 use httparse::spans::{EMPTY_HEADER_SPAN, HeaderSpan, RequestSpans, parse_request};
 use rs_path::{Bytes, NoMemory};
@@ -34,6 +36,9 @@ pub(crate) struct Begun {
 /// A field of a head takes at least so many bytes: a name, a colon and a line end.
 pub const FIELD_MIN: usize = 3;
 
+/// A head with so many fields, or fewer, is read with no list of their places on the heap.
+const FEW_FIELDS: usize = 32;
+
 /// A copy of the bytes.
 pub fn bytes_of(alloc: Global, text: &[u8]) -> Result<Bytes, NoMemory>
     ensures { IfOk result (λ bytes. bytes ≡ text.now) }
@@ -43,25 +48,25 @@ pub fn bytes_of(alloc: Global, text: &[u8]) -> Result<Bytes, NoMemory>
     Ok(Bytes::of(list))
 }
 
-/// The fields at these places of a text, each value without the blanks round it.
+/// The fields at these places of a text, each value without the blanks round it. The text is copied once.
 pub fn fields_at(alloc: Global, text: &[u8], spans: &[HeaderSpan]) -> Result<Fields, NoMemory>
     requires { All (IsHeaderWithin (length text.now)) spans.now }
     ensures { IfOk result (λ fields. fields ≡ pair_fields (map (header_bytes text.now) spans.now)) }
 {
-    let mut fields = Fields::new(alloc);
+    let shared = bytes_of(alloc, text)?.shared();
+    let mut fields = Fields::with_room(alloc, spans.len())?;
     for span in spans {
-        let name = bytes_of(alloc, span.name.of(text))?;
-        let value = bytes_of(alloc, span.value.of(text))?;
+        let name = TextPart::at(&shared, span.name)?;
+        let value = TextPart::at(&shared, span.value)?;
         fields.push(Field { name, value })?;
     }
     Ok(fields)
 }
 
-/// Where the parts of a head are, where the whole text is one.
+/// Where the parts of a head are, where the whole text is one that has no more fields than there is room for.
 fn find_parts(text: &[u8], room: &mut [HeaderSpan]) -> Option<RequestSpans>
-    requires clean { past_breaks text.now ≡ text.now }
-    requires roomy { length text.now < 3 * length room.old + 3 }
-    ensures none { IfNone result (request_head text.now ≡ None) }
+    requires { past_breaks text.now ≡ text.now }
+    ensures none { IfNone result ((h : RequestHead) → ReadsRequest text.now h [] → length room.old < length h.fields) }
     ensures some { IfSome result (λ spans. IsRequestIn text.now room.new spans) }
 {
     match parse_request(text, room) {
@@ -154,6 +159,18 @@ pub(crate) fn read_head(
     text: &[u8],
     place: u64,
 ) -> Result<Result<Begun, WireWhy>, NoMemory>
+    requires { past_breaks text.now ≡ text.now }
+    ensures { IfOk result (λ head. head ≡ judged_request place text.now) }
+{
+    let mut room = [EMPTY_HEADER_SPAN; FEW_FIELDS];
+    match find_parts(text, &mut room) {
+        Some(spans) => judge(alloc, text, &room, &spans, place),
+        None => read_any_head(alloc, text, place),
+    }
+}
+
+/// The same of a head that may have as many fields as its bytes allow: only a head that is whole has too many of them.
+fn read_any_head(alloc: Global, text: &[u8], place: u64) -> Result<Result<Begun, WireWhy>, NoMemory>
     requires { past_breaks text.now ≡ text.now }
     ensures { IfOk result (λ head. head ≡ judged_request place text.now) }
 {

@@ -19,6 +19,9 @@ impl Field {
     pub fn is_named(&self, name: &[u8]) -> bool
         ensures { result ≡ is_field_named name.now self.now }
     {
+        if self.name.len() != name.len() {
+            return false;
+        }
         same_name(self.name.as_slice(), name)
     }
 

@@ -243,7 +243,7 @@ impl Opened {
         ensures { result ≡ with_body self.begun.message self.reader.body.items }
     {
         let mut message = self.begun.message;
-        message.body = Bytes::of(self.reader.body);
+        message.body = Bytes::of(self.reader.body).shared();
         message
     }
 }

@@ -1,7 +1,9 @@
 //! The search for the first empty line, which ends a head and a trailer.
 
-ghost use Rattle.std.specs.Prelude.{◌≡◌, ◌<◌, ◌≤◌, length, take, IfSome};
-ghost use Rattle.rs_request.specs.Lines.{next_spot, first_empty_line};
+ghost use Rattle.std.specs.Prelude.{◌≡◌, ◌<◌, ◌≤◌, length, take, Some, IfNone, IfSome};
+ghost use Rattle.rs_request.specs.Lines.{next_spot, spot_after, first_empty_line, first_line};
+
+use memchr::memchr;
 
 /// Where in a line a search for the first empty line is.
 #[derive(Clone, Copy, Debug, PartialEq, Eq)]
@@ -28,6 +30,34 @@ impl Spot {
             Spot::Within if byte == b'\n' => Some(Spot::Fresh),
             _ => Some(Spot::Within),
         }
+    }
+
+    /// Goes on over one byte or, in a line, over all of it: how many bytes these are, and the spot after them, or nothing where
+    /// they end an empty line.
+    fn past(self, rest: &[u8]) -> (usize, Option<Spot>)
+        requires { 0 < length rest.now }
+        ensures within { (0 < result.0) × (result.0 ≤ length rest.now) }
+        ensures goes { IfSome result.1 (λ next. spot_after self (take result.0 rest.now) ≡ Some next) }
+        ensures ends { IfNone result.1 (first_empty_line self rest.now ≡ Some result.0) }
+    {
+        match self {
+            Spot::Within => match line_length(rest) {
+                Some(count) => (count, Some(Spot::Fresh)),
+                None => (rest.len(), Some(Spot::Within)),
+            },
+            _ => (1, self.after(rest[0])),
+        }
+    }
+}
+
+/// The number of bytes up to and with the first LF, where there is one.
+pub(crate) fn line_length(bytes: &[u8]) -> Option<usize>
+    ensures line { result ≡ first_line bytes.now }
+    ensures within { IfSome result (λ count. (0 < count) × (count ≤ length bytes.now)) }
+{
+    match memchr(b'\n', bytes) {
+        Some(index) => Some(index + 1),
+        None => None,
     }
 }
 
@@ -72,10 +102,15 @@ impl Search {
             → IsSought start self.new bytes.now }
     {
         let mut spot = self.spot;
-        for i in self.sought..bytes.len() {
-            match spot.after(bytes[i]) {
-                Some(next) => spot = next,
-                None => return Some(i + 1),
+        let mut at = self.sought;
+        while at < bytes.len() {
+            let (count, next) = spot.past(&bytes[at..]);
+            match next {
+                Some(next) => {
+                    at += count;
+                    spot = next;
+                }
+                None => return Some(at + count),
             }
         }
         self.sought = bytes.len();

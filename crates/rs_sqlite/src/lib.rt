@@ -4,6 +4,8 @@
 mod limits;
 mod sql_keeper;
 mod statements;
+mod telling_keeper;
 
 pub use limits::{MAX_ROWS, limit_laws};
 pub use sql_keeper::SqlKeeper;
+pub use telling_keeper::{Steadfast, TellingKeeper};

@@ -1,7 +1,11 @@
 //! A keeper over a database.
-ghost use Rattle.std.specs.Prelude.{◌≡◌, IfOk};
-ghost use Rattle.rs_face.specs.Causes.{one_more};
-ghost use Rattle.rs_sqlite.specs.Counts.{fault_of, faults_after};
+ghost use Rattle.std.specs.Prelude.{◌≡◌, ℕ, ◌+◌, ◌<◌, pos, List, [], ◌∷◌, ◌++◌, None, slice_get, Some, length, if◌then◌else◌, is_ok, IfOk, OnOk, OnErr, IsErrOf};
+ghost use Rattle.sqlite.specs.Held.{state};
+ghost use Rattle.sqlite.specs.State.{HasCleanDisk, Survives};
+ghost use Rattle.rs_face.specs.Causes.{one_more, HasCause};
+ghost use Rattle.rs_sqlite.specs.Limits.{max_rows};
+ghost use Rattle.rs_sqlite.specs.Keeping.{fault_of, faults_after, KeepsRows, StillKeeps};
+ghost use Rattle.rs_sqlite.specs.Tables.{OpensAs, HasRows};
 
 use crate::limits::MAX_ROWS;
 use crate::statements::{fetch, insert, rows_of};
@@ -11,9 +15,12 @@ use std::marker::Model;
 
 /// A keeper that holds its rows in the table `kept(n INTEGER PRIMARY KEY, bytes BLOB NOT NULL)` of a database.
 ///
-/// `n` is the row's position, counted from 1. It tells no rows; contracts see it as their number and the number of
-/// statements that were refused for another cause than memory. That the rows are those that were kept holds while
-/// nobody else writes the database and the disk returns what was written.
+/// `n` is the row's position, counted from 1. Contracts see it as its connection, the number of rows and the number of
+/// statements that were refused for another cause than memory.
+///
+/// As a `Keeper` it tells no rows, since any disk may lie. What is in the table is said by clauses of its own, which hold
+/// where the disk is clean (`HasCleanDisk` of `sqlite`): nobody else has written the database, and the disk has returned
+/// what was written. [`TellingKeeper`](crate::TellingKeeper) tells the rows over a store that is always clean.
 pub struct SqlKeeper<S: Alter> {
     connection: Connection<S>,
     len: u64,
@@ -31,14 +38,16 @@ impl<S: Alter + Drop> Drop for SqlKeeper<S> {
 }
 
 impl<S: Alter> Model for SqlKeeper<S> {
-    ghost use Rattle.rs_sqlite.specs.Counts.{Counts};
+    ghost use Rattle.rs_sqlite.specs.Keeping.{Keeping, keeping_code};
 
-    ghost Value = { Counts };
+    ghost Value = { Keeping S };
+
+    ghost coded = { keeping_code S.code };
 
     ghost use Rattle.std.specs.Prelude.{◌≤◌};
     ghost use Rattle.rs_sqlite.specs.Limits.{max_rows};
 
-    ghost view = { λ k. record { rows = k.len; faults = k.faults } };
+    ghost view = { λ k. record { connection = k.connection; rows = k.len; faults = k.faults } };
 
     ghost invariant = { λ k. k.len ≤ max_rows };
 }
@@ -48,9 +57,12 @@ impl<S: Alter + Drop> SqlKeeper<S> {
     ///
     /// The connection isn't within a transaction. The answer is `NoMemory` where a statement lacked memory, and else
     /// `Failed`: where a statement was refused, as over a table `kept` of another shape, and where the rows that are
-    /// there aren't numbered from 1 without a gap.
+    /// there aren't numbered from 1 without a gap. A database that has the table of rows and nothing else, and a new
+    /// one, are opened as the rows that they have.
     pub fn open(connection: Connection<S>) -> Result<SqlKeeper<S>, KeepFault>
         ensures faults { IfOk result (λ keeper. keeper.faults ≡ 0) }
+        ensures rows { (rows : List (List ℕ)) → OpensAs (state S.Store connection) rows
+            → IfOk result (λ keeper. HasCleanDisk (state S.Store keeper.connection) → KeepsRows S.Store keeper rows) }
     {
         let mut connection = connection;
         if !connection.is_autocommit() {
@@ -67,8 +79,28 @@ impl<S: Alter + Drop> SqlKeeper<S> {
         }
     }
 
+    /// How many statements were refused so far for another cause than memory. A number that would pass 2^64 - 1 stays there.
+    pub fn faults(&self) -> u64
+        ensures faults { result ≡ self.now.faults }
+    {
+        self.faults
+    }
+
+    /// The same keeper, whose count of faults goes on from this number.
+    pub fn with_faults(self, faults: u64) -> SqlKeeper<S>
+        ensures connection { result.connection ≡ self.connection }
+        ensures rows { result.rows ≡ self.rows }
+        ensures faults { result.faults ≡ faults }
+    {
+        let mut keeper = self;
+        keeper.faults = faults;
+        keeper
+    }
+
     /// The connection, to close it.
-    pub fn into_connection(self) -> Connection<S> {
+    pub fn into_connection(self) -> Connection<S>
+        ensures same { result ≡ self.connection }
+    {
         let SqlKeeper {
             connection,
             len: _,
@@ -79,8 +111,6 @@ impl<S: Alter + Drop> SqlKeeper<S> {
 }
 
 impl<S: Alter> Keeper for SqlKeeper<S> {
-    ghost use Rattle.std.specs.Prelude.{None};
-
     ghost rows = { λ _. None };
 
     ghost row_count = { λ k. k.rows };
@@ -93,9 +123,24 @@ impl<S: Alter> Keeper for SqlKeeper<S> {
         self.len
     }
 
-    fn read(&mut self, i: u64, out: &mut Vec<u8>) -> Result<(), KeepFault> {
+    fn read(&mut self, i: u64, out: &mut Vec<u8>) -> Result<(), KeepFault>
+        requires { i < self.old.rows }
+        ensures err { OnErr result (out.new.items ≡ []) }
+        ensures len { self.new.rows ≡ self.old.rows }
+        ensures cause { HasCause self.old.faults self.new.faults KeepFault.Failed result }
+        ensures quiet { OnOk result (self.new.faults ≡ self.old.faults) }
+        ensures no_memory { IsErrOf result KeepFault.NoMemory → self.new.faults ≡ self.old.faults }
+        // What is in the table, where the disk is clean.
+        ensures row { (rows : List (List ℕ)) → KeepsRows S.Store self.old rows
+            → HasCleanDisk (state S.Store self.new.connection) → OnOk result (slice_get rows i ≡ Some out.new.items) }
+        ensures kept { (rows : List (List ℕ)) → KeepsRows S.Store self.old rows
+            → HasCleanDisk (state S.Store self.new.connection) → StillKeeps S.Store self.new rows }
+        // A stop leaves what it could leave before.
+        ensures stop { (rows : List (List ℕ)) → KeepsRows S.Store self.old rows
+            → Survives (state S.Store self.old.connection) (state S.Store self.new.connection) (λ _. ⊥) }
+    {
         out.clear();
-        match fetch(&mut self.connection, i as i64 + 1) {
+        match fetch(&mut self.connection, number_of(i)) {
             Ok(row) => {
                 *out = row;
                 Ok(())
@@ -104,13 +149,28 @@ impl<S: Alter> Keeper for SqlKeeper<S> {
         }
     }
 
-    fn append(&mut self, row: &[u8]) -> Result<(), KeepFault> {
+    fn append(&mut self, row: &[u8]) -> Result<(), KeepFault>
+        ensures len { self.new.rows ≡ (if is_ok result then self.old.rows + 1 else self.old.rows) }
+        ensures cause { HasCause self.old.faults self.new.faults KeepFault.Failed result }
+        ensures quiet { OnOk result (self.new.faults ≡ self.old.faults) }
+        ensures no_memory { IsErrOf result KeepFault.NoMemory → self.new.faults ≡ self.old.faults }
+        // What is in the table, where the disk is clean.
+        ensures appended { (rows : List (List ℕ)) → KeepsRows S.Store self.old rows
+            → HasCleanDisk (state S.Store self.new.connection)
+            → OnOk result (KeepsRows S.Store self.new (rows ++ row.now ∷ [])) }
+        ensures refused { (rows : List (List ℕ)) → KeepsRows S.Store self.old rows
+            → HasCleanDisk (state S.Store self.new.connection) → OnErr result (StillKeeps S.Store self.new rows) }
+        // A stop leaves what it could leave before, or the rows with this one.
+        ensures stop { (rows : List (List ℕ)) → KeepsRows S.Store self.old rows
+            → Survives (state S.Store self.old.connection) (state S.Store self.new.connection)
+            (HasRows (rows ++ row.now ∷ [])) }
+    {
         if self.len == MAX_ROWS {
             self.count_fault();
             return Err(KeepFault::Failed);
         }
-        match insert(&mut self.connection, self.len as i64 + 1, row) {
-            Ok(()) => {
+        match insert(&mut self.connection, number_of(self.len), row) {
+            Ok(_) => {
                 self.len += 1;
                 Ok(())
             }
@@ -123,6 +183,7 @@ impl<S: Alter> SqlKeeper<S> {
     // What a refused statement is answered with. It is counted, unless it lacked memory.
     fn answer_to(&mut self, error: &Error) -> KeepFault
         ensures fault { result ≡ fault_of error.now }
+        ensures connection { self.new.connection ≡ self.old.connection }
         ensures rows { self.new.rows ≡ self.old.rows }
         ensures faults { self.new.faults ≡ faults_after result self.old.faults }
     {
@@ -134,6 +195,7 @@ impl<S: Alter> SqlKeeper<S> {
     }
 
     fn count_fault(&mut self)
+        ensures connection { self.new.connection ≡ self.old.connection }
         ensures rows { self.new.rows ≡ self.old.rows }
         ensures faults { self.new.faults ≡ one_more self.old.faults }
     {
@@ -148,4 +210,12 @@ fn fault_of(error: &Error) -> KeepFault
         Error::SqliteFailure(ErrorCode::OutOfMemory) => KeepFault::NoMemory,
         _ => KeepFault::Failed,
     }
+}
+
+// The number in the table of the row at this place.
+fn number_of(place: u64) -> i64
+    requires { place < max_rows }
+    ensures { result ≡ pos (1 + place) }
+{
+    place as i64 + 1
 }

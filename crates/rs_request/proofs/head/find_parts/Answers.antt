@@ -1,4 +1,5 @@
-use Rattle.std.proofs.Common.{◌≡◌, ℕ, ◌+◌, ◌*◌, ◌<◌, ◌≤◌, length, drop, [], List, Result, Ok, Err, ap, ◌∙◌, subst, arith}
+use Rattle.std.proofs.Common.{◌≡◌, ℕ, length, drop, [], List, Result, Ok, Err, ap, ◌∙◌, subst, arith}
+use Rattle.std.proofs.Math.Nat.{lt_of_not-le}
 use Rattle.std.proofs.lemmas.List.{drop_all}
 use Rattle.httparse.specs.Grammar.{RequestHead, ReadsRequest}
 use Rattle.httparse.specs.Outcome.{IfComplete, IsCompleteAnd}
@@ -10,7 +11,7 @@ use Rattle.httparse.specs.declared.spans.HeaderSpan.{HeaderSpan}
 use Rattle.httparse.specs.declared.spans.RequestSpans.{RequestSpans}
 use Rattle.rs_request.specs.Lines.{past_breaks}
 use Rattle.rs_request.specs.RequestHeads.{IsRequestIn}
-use Rattle.rs_request.proofs.RequestLemmas.{request_found, request_none, field_room, text_length}
+use Rattle.rs_request.proofs.RequestLemmas.{request_found, text_length}
 use Rattle.rs_request.proofs.head.find_parts.Goals as goal
 
 abbrev Answer : Type 0
@@ -28,9 +29,6 @@ found_partial r P e h = let at : Answer → Type 0 = λ r. IsCompleteAnd r P in 
 found_err : (r : Answer) (x : Error) (P : RequestSpans → Type 0) → r ≡ Err x → IsCompleteAnd r P → ⊥
 found_err r x P e h = let at : Answer → Type 0 = λ r. IsCompleteAnd r P in subst at e h
 
-room_for : (text : List ℕ) (h : RequestHead) (n : ℕ) → length text < 3 * n + 3 → ReadsRequest text h [] → length h.fields ≤ n
-room_for text h n roomy reads = omega (arith, field_room text h reads)
-
 other_length : (text : List ℕ) (room : List HeaderSpan) (spans : RequestSpans) (h : RequestHead) → ReadsRequest text h []
     → IsRequestAt text room spans h → spans.len ≡ length text
 other_length text room spans h reads at = at.len ∙ text_length text h reads
@@ -43,12 +41,12 @@ in_text text room spans clean whole of within =
     record { head = of.0; is = request_found text of.0 clean reads; at = of.1; within = within; whole = whole }
 
 pub returns-then-spans-text-clause-none : goal.returns-then-spans-text-clause-none
-returns-then-spans-text-clause-none c =
+returns-then-spans-text-clause-none c h reads =
     let is = c.in-Ok-Complete.is ∙ ap Ok c.in-Ok-Complete.field-0-is in
-    request_none c.args.text.now (λ h reads.
+    lt_of_not-le (λ fits.
     c.if-spans-text.true (other_length c.args.text.now c.parse_request.new.headers c.in-Ok-Complete.spans h reads
     (found_complete c.parse_request.result c.in-Ok-Complete.spans (λ spans. IsRequestAt c.args.text.now c.parse_request.new.headers spans h) is
-    (c.parse_request.ensures.found h [] reads (room_for c.args.text.now h _ c.requires.roomy reads)))))
+    (c.parse_request.ensures.found h [] reads fits))))
 
 pub returns-else-spans-text-clause-some : goal.returns-else-spans-text-clause-some
 returns-else-spans-text-clause-some c =
@@ -56,19 +54,19 @@ returns-else-spans-text-clause-some c =
     let spans = c.in-Ok-Complete.spans in
     let room = c.parse_request.new.headers in
     let text = c.args.text.now in
-    in_text text room spans c.requires.clean c.if-spans-text.false
+    in_text text room spans c.requires c.if-spans-text.false
     (at_complete c.parse_request.result spans (λ spans. IsRequestOf text room spans) is c.parse_request.ensures.complete)
     (at_complete c.parse_request.result spans (λ spans. IsRequestWithin text room spans) is c.parse_request.ensures.within)
 
 pub returns-in-Ok-Partial-clause-none : goal.returns-in-Ok-Partial-clause-none
-returns-in-Ok-Partial-clause-none c =
+returns-in-Ok-Partial-clause-none c h reads =
     let is = c.in-Ok-Partial.is ∙ ap Ok c.in-Ok-Partial.field-0-is in
-    request_none c.args.text.now (λ h reads.
+    lt_of_not-le (λ fits.
     found_partial c.parse_request.result (λ spans. IsRequestAt c.args.text.now c.parse_request.new.headers spans h) is
-    (c.parse_request.ensures.found h [] reads (room_for c.args.text.now h _ c.requires.roomy reads)))
+    (c.parse_request.ensures.found h [] reads fits))
 
 pub returns-in-Err-clause-none : goal.returns-in-Err-clause-none
-returns-in-Err-clause-none c =
-    request_none c.args.text.now (λ h reads.
+returns-in-Err-clause-none c h reads =
+    lt_of_not-le (λ fits.
     found_err c.parse_request.result c.in-Err.field-0 (λ spans. IsRequestAt c.args.text.now c.parse_request.new.headers spans h) c.in-Err.is
-    (c.parse_request.ensures.found h [] reads (room_for c.args.text.now h _ c.requires.roomy reads)))
+    (c.parse_request.ensures.found h [] reads fits))

@@ -37,14 +37,14 @@ returns-then-count-left-clause-ok c room =
     let n = c.args.left in
     let k = c.at_most-count.result in
     let l = few n k (length c.args.rest.now) c.at_most-count.ensures c.if-count-left.true in
-    data_waits c.args.self.now _ c.args.at n k c.args.rest.now c.requires refl c.in_ok-extend_from_slice.ensures.items l.0 l.1 l.2
+    data_waits c.args.self.now _ c.args.at n k c.args.rest.now c.requires refl c.in_ok-put_some.ensures.ok l.0 l.1 l.2
 
 pub returns-then-after-lt2-clause-ok : goal.returns-then-after-lt2-clause-ok
 returns-then-after-lt2-clause-ok c room =
     let n = c.args.left in
     let k = c.at_most-count.result in
     let l = all_but_end n k c.args.rest.now c.at_most-count.ensures c.if-count-left.false c.if-after-lt2.true in
-    data_waits c.args.self.now _ c.args.at n k c.args.rest.now c.requires refl c.in_ok-extend_from_slice.ensures.items l.0 l.1 l.2
+    data_waits c.args.self.now _ c.args.at n k c.args.rest.now c.requires refl c.in_ok-put_some.ensures.ok l.0 l.1 l.2
 
 pub returns-then-not-has_line_end-clause-ok : goal.returns-then-not-has_line_end-clause-ok
 returns-then-not-has_line_end-clause-ok c room =
@@ -63,5 +63,5 @@ returns-clause-ok c room =
     let rest = c.args.rest.now in
     let w = whole n k rest c.at_most-count.ensures c.if-count-left.false c.if-after-lt2.false in
     let part = c.requires ∙ ap Data (sym w.same) in
-    data_goes c.args.self.now _ c.args.at k rest part refl c.in_ok-extend_from_slice.ensures.items w.enough
+    data_goes c.args.self.now _ c.args.at k rest part refl c.in_ok-put_some.ensures.ok w.enough
     (ap has_line_end (sym (take_rest rest k)) ∙ sym c.has_line_end.ensures ∙ c.if-not-has_line_end.false)

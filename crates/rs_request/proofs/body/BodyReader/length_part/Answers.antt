@@ -16,8 +16,8 @@ returns-then-count-left-clause-ok c =
     let same = c.if-count-left.true in
     let part = c.requires ∙ ap Length (sym same) in
     let n = enough c.args.left k (length rest) c.at_most-count.ensures same in
-    length_ends c.args.self.now (record c.args.self.now { body = c.extend_from_slice.new.self }) c.args.at k rest part
-    c.in_ok-extend_from_slice.ensures.items (omega arith)
+    length_ends c.args.self.now (record c.args.self.now { body = c.put_some.new.list }) c.args.at k rest part
+    c.in_ok-put_some.ensures.ok (omega arith)
 
 pub returns-clause-ok : goal.returns-clause-ok
 returns-clause-ok c =
@@ -25,4 +25,4 @@ returns-clause-ok c =
     let k = c.at_most-count.result in
     let rest = c.args.rest.now in
     let l = all_left n k (length rest) c.at_most-count.ensures c.if-count-left.false in
-    length_waits c.args.self.now _ c.args.at n k rest c.requires refl c.in_ok-extend_from_slice.ensures.items l.0 l.1
+    length_waits c.args.self.now _ c.args.at n k rest c.requires refl c.in_ok-put_some.ensures.ok l.0 l.1

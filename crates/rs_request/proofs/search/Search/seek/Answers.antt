@@ -1,45 +1,34 @@
-use Rattle.std.proofs.Common.{◌≡◌, ◌+◌, ◌++◌, ◌<◌, length, take, drop, get_or, Some, None, sym, ap, ◌∙◌, arith}
-use Rattle.std.proofs.lemmas.List.{take_more, take_all, take-append-drop, drop_more, length-take-le}
-use Rattle.rs_request.specs.Lines.{first_empty_line, spot_after, next_spot}
-use Rattle.rs_request.proofs.LinesLemmas.{spot_after_push, empty_line_found, empty_line_none}
+use Rattle.std.proofs.Common.{◌≡◌, ◌-◌, ◌<◌, length, take, drop, Option, Some, sym, ap, ◌∙◌, subst, arith}
+use Rattle.std.specs.Prelude.{IfNone, IfSome}
+use Rattle.std.proofs.lemmas.List.{take_all, take_rest}
+use Rattle.rs_request.specs.declared.search.Spot.{Spot}
+use Rattle.rs_request.specs.Lines.{first_empty_line, spot_after}
+use Rattle.rs_request.proofs.LinesLemmas.{spot_after_place, empty_line_place, empty_line_none}
 use Rattle.rs_request.proofs.search.Search.seek.Goals as goal
 
-pub loop-i-init : goal.loop-i-init
-loop-i-init c start sought = sought.spot
-
-pub loop-i-preserved : goal.loop-i-preserved
-loop-i-preserved c start sought =
+pub loop-at-preserved : goal.loop-at-preserved
+loop-at-preserved c start sought =
     let xs = c.args.bytes.now in
-    let i = c.loop-i.i in
-    ap (spot_after start) (take_more xs i 0 c.loop-i-test.true)
-    ∙ spot_after_push start c.loop-i.spot (take i xs) (get_or xs i 0) (c.loop-i.invariant start sought)
-    ∙ sym c.after.ensures ∙ c.in-Some.is
+    let s = c.loop-at.spot in
+    let at = c.loop-at.at in
+    let n = c.past-count.result.0 in
+    let rest = take (length xs - at) (drop at xs) in
+    let goes = subst (λ (o : Option Spot). IfSome o (λ next. spot_after s (take n rest) ≡ Some next)) c.in-Some.is c.past-count.ensures.goes in
+    spot_after_place start s c.in-Some.next xs rest at n (take_rest xs at) (c.loop-at.invariant start sought) goes
 
 pub returns-in-None-clause-found : goal.returns-in-None-clause-found
 returns-in-None-clause-found c start sought =
     let xs = c.args.bytes.now in
-    let i = c.loop-i.i in
-    let inside : i < length xs = c.loop-i-test.true in
-    let n = length-take-le i xs (omega arith) in
-    let ends : next_spot c.loop-i.spot (get_or xs i 0) ≡ None = sym c.after.ensures ∙ c.in-None.is in
-    let cut = ap (λ ys. take i xs ++ ys) (drop_more xs i 0 inside) in
-    sym (ap (first_empty_line start) (sym (take-append-drop i xs) ∙ cut)
-    ∙ empty_line_found start c.loop-i.spot (take i xs) (get_or xs i 0) (drop (i + 1) xs) (c.loop-i.invariant start sought) ends
-    ∙ ap (λ n. Some (n + 1)) n)
+    let s = c.loop-at.spot in
+    let at = c.loop-at.at in
+    let n = c.past-count.result.0 in
+    let inside : at < length xs = c.loop-at-test.true in
+    let rest = take (length xs - at) (drop at xs) in
+    let ends = subst (λ (o : Option Spot). IfNone o (first_empty_line s rest ≡ Some n)) c.in-None.is c.past-count.ensures.ends in
+    sym (empty_line_place start s xs rest at n (take_rest xs at) (omega arith) (c.loop-at.invariant start sought) ends)
 
 pub returns-clause-found : goal.returns-clause-found
 returns-clause-found c start sought =
     let xs = c.args.bytes.now in
-    let i = c.loop-i.i in
-    let all = take_all i xs c.loop-i-test.false in
-    sym (empty_line_none start c.loop-i.spot xs (ap (spot_after start) (sym all) ∙ c.loop-i.invariant start sought))
-
-pub returns-clause-kept : goal.returns-clause-kept
-returns-clause-kept c start sought =
-    let xs = c.args.bytes.now in
-    let i = c.loop-i.i in
-    let all = take_all i xs c.loop-i-test.false in
-    record {
-      within = omega arith;
-      spot = ap (spot_after start) (take_all (length xs) xs (omega arith) ∙ sym all) ∙ c.loop-i.invariant start sought;
-    }
+    let all = take_all c.loop-at.at xs c.loop-at-test.false in
+    sym (empty_line_none start c.loop-at.spot xs (ap (spot_after start) (sym all) ∙ c.loop-at.invariant start sought))

@@ -1,0 +1,6 @@
+mod CountLemmas
+mod EntryLemmas
+mod KeeperLemmas
+mod StatementLemmas
+mod TellingLemmas
+mod Texts
