@@ -1,6 +1,7 @@
 pub mod Cited
 mod DecideLemmas
 mod DueLemmas
+mod GrantingLemmas
 mod InputLemmas
 mod OutputLemmas
 mod SendLemmas

@@ -2,6 +2,7 @@
 #![tactic(auto)]
 
 mod drawing;
+mod granting;
 mod input;
 mod output;
 mod sending;
@@ -9,6 +10,7 @@ mod serve;
 mod settling;
 
 pub use drawing::draw_token;
+pub use granting::grant_law;
 pub use output::one_output;
 pub use rs_exchange::{
     Account, Accounts, Answer, Asked, Config, HEAD_ROOM, MAX_REPLIES, Manner, Methods, Refusal,
