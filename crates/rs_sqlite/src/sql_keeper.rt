@@ -63,6 +63,8 @@ impl<S: Alter + Drop> SqlKeeper<S> {
         ensures faults { IfOk result (λ keeper. keeper.faults ≡ 0) }
         ensures rows { (rows : List (List ℕ)) → OpensAs (state S.Store connection) rows
             → IfOk result (λ keeper. HasCleanDisk (state S.Store keeper.connection) → KeepsRows S.Store keeper rows) }
+        // A disk that is clean now was clean before.
+        ensures clean { IfOk result (λ keeper. HasCleanDisk (state S.Store keeper.connection) → HasCleanDisk (state S.Store connection)) }
     {
         let mut connection = connection;
         if !connection.is_autocommit() {
@@ -203,7 +205,8 @@ impl<S: Alter> SqlKeeper<S> {
     }
 }
 
-fn fault_of(error: &Error) -> KeepFault
+/// What a refused statement is answered with.
+pub(crate) fn fault_of(error: &Error) -> KeepFault
     ensures { result ≡ fault_of error.now }
 {
     match error {

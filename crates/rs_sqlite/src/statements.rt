@@ -18,6 +18,7 @@ pub(crate) fn rows_of<S: Alter>(connection: &mut Connection<S>) -> Result<Option
         → HasCleanDisk (state S.Store connection.new) → OnOk result (HoldsRows (state S.Store connection.new) rows) }
     ensures count { (rows : List (List ℕ)) → OpensAs (state S.Store connection.old) rows
         → HasCleanDisk (state S.Store connection.new) → IfOk result (λ found. IfSome found (λ count. count ≡ length rows)) }
+    ensures clean { HasCleanDisk (state S.Store connection.new) → HasCleanDisk (state S.Store connection.old) }
 {
     make_table(connection)?;
     let row = ask_count(connection)?;
@@ -27,6 +28,7 @@ pub(crate) fn rows_of<S: Alter>(connection: &mut Connection<S>) -> Result<Option
 fn make_table<S: Alter>(connection: &mut Connection<S>) -> Result<usize, Error>
     ensures holds { (rows : List (List ℕ)) → OpensAs (state S.Store connection.old) rows
         → HasCleanDisk (state S.Store connection.new) → OnOk result (HoldsRows (state S.Store connection.new) rows) }
+    ensures clean { HasCleanDisk (state S.Store connection.new) → HasCleanDisk (state S.Store connection.old) }
 {
     connection.execute(
         "CREATE TABLE IF NOT EXISTS kept(n INTEGER PRIMARY KEY, bytes BLOB NOT NULL)",
