@@ -3,7 +3,7 @@ ghost use Rattle.std.specs.Prelude.{◌≡◌, ℕ, List, [], IfOk};
 ghost use Rattle.sqlite.specs.Held.{state};
 ghost use Rattle.sqlite.specs.Steps.{over_memory};
 ghost use Rattle.rs_sqlite.specs.Keeping.{KeepsRows};
-ghost use Rattle.rs_sqlite.specs.Tables.{OpensAs, rows_in};
+ghost use Rattle.rs_sqlite.specs.Tables.{IsOpenedAs, rows_in};
 
 use crate::sql_keeper::SqlKeeper;
 use rs_face::{KeepFault, Keeper};
@@ -66,8 +66,8 @@ impl<S: Steadfast + Drop> TellingKeeper<S> {
 
     /// A keeper of the rows of a database, which tells them. The errors are those of `SqlKeeper::open`.
     pub fn open(connection: Connection<S>) -> Result<TellingKeeper<S>, KeepFault>
-        requires opens { (rows : List (List ℕ)) × OpensAs (state S.Store connection) rows }
-        ensures rows { (rows : List (List ℕ)) → OpensAs (state S.Store connection) rows
+        requires opens { (rows : List (List ℕ)) × IsOpenedAs (state S.Store connection) rows }
+        ensures rows { (rows : List (List ℕ)) → IsOpenedAs (state S.Store connection) rows
             → IfOk result (λ keeper. rows_in (state S.Store keeper.connection).now.trees ≡ rows) }
         ensures faults { IfOk result (λ keeper. keeper.faults ≡ 0) }
     {
