@@ -6,7 +6,6 @@ use Rattle.rs_record.specs.declared.records.Record.TheVariants.{Put, Remove, Gra
 use Rattle.rs_record.specs.Rows.{spelling}
 use Rattle.rs_record.specs.RowReadings.{record_reading}
 use Rattle.rs_rules.specs.declared.request.Request.{Request}
-use Rattle.rs_rules.specs.Requests.{is_within_limit}
 use Rattle.rs_rules.specs.Answers.{brought}
 
 -- what is written or removed is a document, and by a token; other writes are refused on every history

@@ -1,4 +1,4 @@
-//! Requests prepared: what needs no state is made before the turn.
+//! What of a request needs no state, made before its turn.
 
 ghost use Rattle.std.specs.Prelude.{◌≡◌, ◌≤◌, true, false, None, Some, length, option_map, option_copied, IfOk, if◌then◌else◌};
 ghost use Rattle.rs_record.specs.declared.records.Record.TheVariants.{Put as PutRecord, Remove as RemoveRecord};
@@ -6,7 +6,7 @@ ghost use Rattle.rs_record.specs.Records.{body_limit, has_parts, is_writable};
 ghost use Rattle.rs_rules.specs.declared.request.Request.TheVariants.{Store};
 ghost use Rattle.rs_rules.specs.Requests.{is_within_limit};
 ghost use Rattle.rs_rules.specs.Answers.{token_of};
-ghost use Rattle.rs_user.specs.Preparations.{row_to_keep, IsRowOf, IsMadeFor};
+ghost use Rattle.rs_user.specs.Preparations.{IsRowOf, IsMadeFor};
 
 use rs_path::{NoMemory, Path};
 use rs_record::{Record, encode, encode_put, row_laws};
@@ -15,10 +15,11 @@ use rs_scope::{Method, Token};
 use std::alloc::Global;
 use std::marker::Model;
 
-/// A request, and what of it needs no state: the row of the record that it brings, with the digest of its body. A
-/// contract sees it as the request.
+/// A request with what of it needs no state: the row of the record that it brings, in which a document's digest stands.
+/// A contract sees it as the request.
 ///
-/// Its turn appends the row, so it holds no state for longer than the append takes, however long the body is.
+/// Who waits for a turn prepares the request before: the turn then appends the row as it is. The body is neither digested
+/// nor spelled in it, and where bodies are shared (`Bytes::shared`) it isn't copied.
 #[derive(Drop)]
 pub struct PreparedRequest<'a> {
     request: &'a Request,
@@ -39,7 +40,7 @@ impl<'a> Model for PreparedRequest<'a> {
 }
 
 impl<'a> PreparedRequest<'a> {
-    /// Prepares a request. It looks at no state, and keeps the request borrowed.
+    /// Prepares a request. No state is looked at, so a request that its turn refuses may have been given a row too.
     pub fn new(alloc: Global, request: &'a Request) -> Result<PreparedRequest<'a>, NoMemory>
         requires body { is_within_limit request.now ≡ true }
         ensures request { IfOk result (λ prepared. prepared ≡ request.now) }
@@ -56,9 +57,9 @@ impl<'a> PreparedRequest<'a> {
         self.request
     }
 
-    /// The row that was made for it.
+    /// The row of the record that it brings, where there is one: of a grant, of a revocation, and of a PUT or a DELETE of a
+    /// document that shows a token. Other requests add no record to any history.
     pub fn row(&self) -> Option<&[u8]>
-        ensures row { option_copied result ≡ row_to_keep self.now }
         ensures made { IsMadeFor (option_copied result) self.now }
     {
         self.row.as_deref()
