@@ -10,6 +10,7 @@ ghost use Rattle.rs_user.specs.Standing.{StandsFor};
 ghost use Rattle.rs_user.specs.Turns.{StateTurned};
 
 use crate::decision::Decision;
+use crate::laws::turn_laws;
 use crate::preparation::PreparedRequest;
 use crate::state::UserState;
 use rs_face::Keeper;
@@ -92,6 +93,7 @@ impl<T: Tree> UserState<T> {
     {
         lawful_laws();
         taken_laws();
+        turn_laws();
         answer_laws();
         match self.decide(call)? {
             Decision::Answer(reply) => Ok(Turn {

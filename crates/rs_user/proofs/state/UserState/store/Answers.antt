@@ -5,11 +5,11 @@ use Rattle.rs_rules.specs.declared.reply.Reply.TheVariants.{Stored, Removed}
 use Rattle.rs_rules.specs.declared.request.Request.TheVariants.{Store}
 use Rattle.rs_rules.specs.Histories.{len}
 use Rattle.rs_rules.specs.Snapshots.{Snapshot, snapshot}
-use Rattle.rs_rules.specs.Answers.{answer, taken, token_of, put_record, remove_record, record_of_call}
+use Rattle.rs_rules.specs.Answers.{answer, taken, put_record, remove_record, record_of_call}
 use Rattle.rs_user.specs.declared.decision.Decision.{Decision}
 use Rattle.rs_user.specs.Decisions.{DecisionAgrees}
 use Rattle.rs_user.proofs.MayLemmas.{put_within}
-use Rattle.rs_user.proofs.PreparationLemmas.{put_row, remove_row}
+use Rattle.rs_user.proofs.PreparationLemmas.{kept_row}
 use Rattle.rs_user.proofs.TurnLemmas.{kept_turns, still_turns}
 use Rattle.rs_user.proofs.state.UserState.store.Goals as goal
 
@@ -33,9 +33,8 @@ unwrap-requires g c =
     let quota = c.args.self.now.quota in
     let is = told (snapshot h) call _ _ _ c.in-Put.is (c.in_ok-reply.ensures.decided (snapshot h) stands.1.shows) in
     let adds : taken h quota (Store call) ≡ Some (put_record call) = ap (record_of_call call) is in
-    let may = c.taken_laws.ensures.may h quota (Store call) (put_record call) c.requires.body adds in
-    (put_row c.args.row h call c.requires.made (c.taken_laws.ensures.only h quota (Store call) (put_record call) adds) may
-    (c.taken_laws.ensures.reach_put h quota (Store call) call.path call.kind call.body (token_of call.pass) adds)).0
+    let keeps = c.turn_laws.ensures.row h quota (Store call) (put_record call) stands.1.lawful c.requires.body adds in
+    (kept_row c.args.row (Store call) (put_record call) c.requires.made keeps).0
 
 pub keep_put-requires : goal.keep_put-requires
 keep_put-requires g c =
@@ -45,12 +44,15 @@ keep_put-requires g c =
     let quota = c.args.self.now.quota in
     let is = told (snapshot h) call _ _ _ c.in-Put.is (c.in_ok-reply.ensures.decided (snapshot h) stands.1.shows) in
     let adds : taken h quota (Store call) ≡ Some (put_record call) = ap (record_of_call call) is in
-    let may = c.taken_laws.ensures.may h quota (Store call) (put_record call) c.requires.body adds in
-    let row = put_row c.args.row h call c.requires.made (c.taken_laws.ensures.only h quota (Store call) (put_record call) adds) may
-    (c.taken_laws.ensures.reach_put h quota (Store call) call.path call.kind call.body (token_of call.pass) adds) in
+    let keeps = c.turn_laws.ensures.row h quota (Store call) (put_record call) stands.1.lawful c.requires.body adds in
     record {
-      may = (h, stands.1, may, c.taken_laws.ensures.room h quota (Store call) (put_record call) adds);
-      row = row.1 c.unwrap.result c.unwrap.ensures;
+      may = (
+        h,
+        stands.1,
+        c.taken_laws.ensures.may h quota (Store call) (put_record call) c.requires.body adds,
+        c.taken_laws.ensures.room h quota (Store call) (put_record call) adds,
+      );
+      row = (kept_row c.args.row (Store call) (put_record call) c.requires.made keeps).1 c.unwrap.result c.unwrap.ensures;
     }
 
 pub unwrap-requires-in-Remove : goal.unwrap-requires-in-Remove
@@ -61,9 +63,8 @@ unwrap-requires-in-Remove g c =
     let quota = c.args.self.now.quota in
     let is = told (snapshot h) call _ _ _ c.in-Remove.is (c.in_ok-reply.ensures.decided (snapshot h) stands.1.shows) in
     let adds : taken h quota (Store call) ≡ Some (remove_record call) = ap (record_of_call call) is in
-    let may = c.taken_laws.ensures.may h quota (Store call) (remove_record call) c.requires.body adds in
-    (remove_row c.args.row h call c.requires.made (c.taken_laws.ensures.only h quota (Store call) (remove_record call) adds) may
-    (c.taken_laws.ensures.reach_remove h quota (Store call) call.path (token_of call.pass) adds) (c.lawful_laws.ensures.documents h stands.1.lawful)).0
+    let keeps = c.turn_laws.ensures.row h quota (Store call) (remove_record call) stands.1.lawful c.requires.body adds in
+    (kept_row c.args.row (Store call) (remove_record call) c.requires.made keeps).0
 
 pub keep_remove-requires : goal.keep_remove-requires
 keep_remove-requires g c =
@@ -73,12 +74,15 @@ keep_remove-requires g c =
     let quota = c.args.self.now.quota in
     let is = told (snapshot h) call _ _ _ c.in-Remove.is (c.in_ok-reply.ensures.decided (snapshot h) stands.1.shows) in
     let adds : taken h quota (Store call) ≡ Some (remove_record call) = ap (record_of_call call) is in
-    let may = c.taken_laws.ensures.may h quota (Store call) (remove_record call) c.requires.body adds in
-    let row = remove_row c.args.row h call c.requires.made (c.taken_laws.ensures.only h quota (Store call) (remove_record call) adds) may
-    (c.taken_laws.ensures.reach_remove h quota (Store call) call.path (token_of call.pass) adds) (c.lawful_laws.ensures.documents h stands.1.lawful) in
+    let keeps = c.turn_laws.ensures.row h quota (Store call) (remove_record call) stands.1.lawful c.requires.body adds in
     record {
-      may = (h, stands.1, may, c.taken_laws.ensures.room h quota (Store call) (remove_record call) adds);
-      row = row.1 c.unwrap-in-Remove.result c.unwrap-in-Remove.ensures;
+      may = (
+        h,
+        stands.1,
+        c.taken_laws.ensures.may h quota (Store call) (remove_record call) c.requires.body adds,
+        c.taken_laws.ensures.room h quota (Store call) (remove_record call) adds,
+      );
+      row = (kept_row c.args.row (Store call) (remove_record call) c.requires.made keeps).1 c.unwrap-in-Remove.result c.unwrap-in-Remove.ensures;
     }
 
 pub returns-in-Answer-clause-turned : goal.returns-in-Answer-clause-turned
