@@ -1,10 +1,16 @@
 //! What messages ask, and the bytes of replies, as tables.
 
+ghost use Rattle.std.specs.Prelude.{◌≡◌, true, IfOk, IsUtf8};
+ghost use Rattle.std.specs.List.{list_all};
+ghost use Rattle.rs_path.specs.Users.{is_user};
+ghost use Rattle.rs_exchange.specs.Accounts.{IsConfig, names_of};
+
 use rs_front::{
-    Account, Accounts, Answer, Asked, Manner, Methods, Refusal, closing_lines, fault_status,
-    head_room, interim_lines, manner_of, read_line, read_request, starved_lines, write_answer,
+    Account, Accounts, Answer, Asked, Config, Manner, Methods, Refusal, Sheet, closing_lines,
+    fault_status, head_room, interim_lines, manner_of, read_line, read_request, starved_lines,
+    write_answer,
 };
-use rs_path::{Bytes, Entry, Items, Kind, Name, Path, Tag};
+use rs_path::{Bytes, Entry, Items, Kind, Name, NoMemory, Path, Tag};
 use rs_rules::{Call, Cond, Pass, Reply, Request};
 use rs_scope::Token;
 use rs_wire::{Field, Fields, RequestMessage, WireWhy, phrase_of, status_start};
@@ -14,72 +20,88 @@ use std::test::Fail;
 
 // ---- messages
 
-fn bytes_of(alloc: Global, text: &str) -> Result<Bytes, Fail> {
-    Ok(Bytes::of(text.as_bytes().to_vec(alloc)?))
+fn bytes_of(alloc: Global, text: &str) -> Result<Bytes, NoMemory>
+    ensures same { IfOk result (λ bytes. bytes ≡ text.now) }
+    ensures utf8 { IfOk result IsUtf8 }
+{
+    Ok(Bytes::of(Vec::from_slice(alloc, text.as_bytes())?))
 }
 
-fn account(alloc: Global, name: &str) -> Result<Account, Fail> {
+// SHA-256 of `s1open sesame`, by sha256sum.
+const SECRET: [u8; 32] = [
+    0xc2, 0x3b, 0x16, 0x80, 0x97, 0x2d, 0xf2, 0x70, 0x9e, 0x75, 0xc4, 0xe0, 0xf5, 0x6c, 0x01, 0xa2,
+    0x3a, 0x4e, 0xec, 0x0f, 0xd2, 0x13, 0x14, 0x25, 0x2d, 0x7e, 0xfe, 0xb7, 0x68, 0xee, 0x5a, 0x73,
+];
+
+fn account(
+    alloc: Global,
+    name: &str,
+    salt: &str,
+    secret: Option<[u8; 32]>,
+) -> Result<Account, NoMemory>
+    ensures name { IfOk result (λ account. account.name ≡ name.now) }
+{
     Ok(Account {
         name: bytes_of(alloc, name)?,
-        salt: bytes_of(alloc, "")?,
-        secret: None,
+        salt: bytes_of(alloc, salt)?,
+        secret,
     })
 }
 
-/// The users alice, number 0, and bob, number 1.
-fn accounts(alloc: Global) -> Result<Accounts, Fail> {
+/// The users alice, number 0, whose password is `open sesame`, and bob, number 1, who has none.
+fn accounts(alloc: Global) -> Result<Accounts, NoMemory>
+    ensures users { IfOk result (λ accounts. list_all is_user (names_of accounts) ≡ true) }
+{
     let mut accounts = Accounts::new(alloc);
-    accounts.push(account(alloc, "alice")?)?;
-    accounts.push(account(alloc, "bob")?)?;
+    accounts.push(account(alloc, "alice", "s1", Some(SECRET))?)?;
+    accounts.push(account(alloc, "bob", "", None)?)?;
     Ok(accounts)
 }
 
-/// A message with these fields, of the form `NAME: VALUE` and parted by line ends.
+/// A server of these users.
+fn config(alloc: Global) -> Result<Config, NoMemory>
+    ensures config { IfOk result IsConfig }
+{
+    Ok(Config {
+        base: bytes_of(alloc, "http://localhost")?,
+        host: bytes_of(alloc, "localhost")?,
+        accounts: accounts(alloc)?,
+    })
+}
+
+/// Fields of the form `NAME: VALUE` that are parted by `;`.
+fn fields_of(alloc: Global, cell: &str) -> Result<Fields, Fail> {
+    let mut fields = Fields::new(alloc);
+    for line in cell.split(';') {
+        if let Some((name, value)) = line.trim().split_once(":") {
+            fields.push(Field::new(bytes_of(alloc, name)?, bytes_of(alloc, value.trim())?))?;
+        }
+    }
+    Ok(fields)
+}
+
+/// A message with these fields and this body.
 fn message(
     alloc: Global,
     method: &str,
     target: &str,
-    lines: &str,
-    close: bool,
+    fields: &str,
+    body: &str,
 ) -> Result<RequestMessage, Fail> {
-    let mut fields = Fields::new(alloc);
-    for line in lines.lines() {
-        if let Some((name, value)) = line.split_once(": ") {
-            fields.push(Field::new(bytes_of(alloc, name)?, bytes_of(alloc, value)?))?;
-        }
-    }
     Ok(RequestMessage {
         method: bytes_of(alloc, method)?,
         target: bytes_of(alloc, target)?,
         minor: 1,
-        fields,
-        body: bytes_of(alloc, "hello")?,
-        close,
+        fields: fields_of(alloc, fields)?,
+        body: bytes_of(alloc, body)?,
+        close: false,
         place: 0,
     })
 }
 
-/// What a message is to ask.
-#[derive(Clone, Copy, Debug, PartialEq, Eq)]
-enum Wanted {
-    /// A request to that user.
-    Desk(u32),
-    Preflight,
-    Refused(Refusal),
-}
-
-/// What was asked, and None where the answer is a desk's.
-fn wanted_of(asked: &Asked) -> Option<Wanted> {
-    match asked {
-        Asked::Desk { user, .. } => Some(Wanted::Desk(*user)),
-        Asked::Now(Answer::Preflight) => Some(Wanted::Preflight),
-        Asked::Now(Answer::Refused(refusal)) => Some(Wanted::Refused(*refusal)),
-        Asked::Now(Answer::Decided(_)) => None,
-    }
-}
-
-/// What a message asks of a server of these users.
-fn asked(alloc: Global, accounts: &Accounts, message: RequestMessage) -> Result<Asked, Fail> {
+/// What a message asks of the server.
+fn asked(alloc: Global, message: RequestMessage) -> Result<Asked, Fail> {
+    let config = config(alloc)?;
     let RequestMessage {
         method,
         target,
@@ -87,184 +109,235 @@ fn asked(alloc: Global, accounts: &Accounts, message: RequestMessage) -> Result<
         body,
         ..
     } = message;
-    let line = read_line(accounts, method.as_slice(), target.as_slice());
-    Ok(read_request(alloc, line, fields.as_slice(), body)?)
+    let line = read_line(&config.accounts, method.as_slice(), target.as_slice());
+    Ok(read_request(alloc, &config, line, fields.as_slice(), body)?)
 }
 
-/// Each row: the method, the target, fields, and what the message asks.
-fn asks(
-    rt: &impl Abort,
-    alloc: Global,
-    rows: &[(&'static str, &'static str, &'static str, Wanted)],
-) -> Result<(), Fail> {
-    let accounts = accounts(alloc)?;
-    for (method, target, lines, wanted) in rows {
-        let asked = asked(
-            alloc,
-            &accounts,
-            message(alloc, method, target, lines, false)?,
-        )?;
-        assert_eq!(rt;
-            (*target, *method, wanted_of(&asked)),
-            (*target, *method, Some(*wanted))
-        );
+/// Why a message is refused, in words.
+fn refusal_words(refusal: Refusal) -> &'static str {
+    match refusal {
+        Refusal::NotFound => "not found",
+        Refusal::NotAllowed {
+            methods: Methods::Storage,
+        } => "methods of storage",
+        Refusal::NotAllowed {
+            methods: Methods::Discovery,
+        } => "methods of discovery",
+        Refusal::NotAllowed {
+            methods: Methods::Grant,
+        } => "methods of grants",
+        Refusal::BadPath => "bad path",
+        Refusal::BadCondition => "bad condition",
+        Refusal::BadKind => "bad kind",
+        Refusal::PartOnly => "part only",
+        Refusal::BadResource => "bad resource",
+        Refusal::BadAddress => "bad address",
+    }
+}
+
+/// What is answered without a desk, in words.
+fn answer_words(answer: &Answer) -> &'static str {
+    match answer {
+        Answer::Decided(_) => "decided",
+        Answer::Preflight => "preflight",
+        Answer::Refused(refusal) => refusal_words(*refusal),
+        Answer::Made {
+            sheet: Sheet::Description,
+            ..
+        } => "description",
+        Answer::Made {
+            sheet: Sheet::ConsentPage,
+            ..
+        } => "page",
+        Answer::Made {
+            sheet: Sheet::DeniedPage,
+            ..
+        } => "page of a denial",
+        Answer::Redirect { .. } => "redirect",
+    }
+}
+
+/// What a message asks, in words. A desk and a grant have the user's number.
+fn words_of(alloc: Global, asked: &Asked) -> Result<String, NoMemory> {
+    match asked {
+        Asked::Desk { user, .. } => Ok(format!(in alloc; "desk {user}")?),
+        Asked::Now(answer) => Ok(String::from_str(alloc, answer_words(answer))?),
+        Asked::Consent { user, .. } => Ok(format!(in alloc; "grant {user}")?),
+    }
+}
+
+/// A message of the row `METHOD TARGET | FIELD; FIELD | BODY | WORDS` asks what the words say.
+fn asks_so(rt: &impl Abort, alloc: Global, row: &str) -> Result<(), Fail> {
+    let mut cells = row.split('|');
+    let line = cells.next().unwrap_or("").trim();
+    let fields = cells.next().unwrap_or("").trim();
+    let body = cells.next().unwrap_or("").trim();
+    let wanted = cells.next().unwrap_or("").trim();
+    let (method, target) = line.split_once(" ").ok_or("no target")?;
+    let asked = asked(alloc, message(alloc, method, target, fields, body)?)?;
+    let words = words_of(alloc, &asked)?;
+    assert_eq!(rt; words.as_str(), wanted, "{row}");
+    Ok(())
+}
+
+/// Each row of the table.
+fn asks(rt: &impl Abort, alloc: Global, table: &str) -> Result<(), Fail> {
+    for row in table.trim().split('\n') {
+        asks_so(rt, alloc, row)?;
     }
     Ok(())
 }
 
-const NOT_FOUND: Wanted = Wanted::Refused(Refusal::NotFound);
-
-const BAD_PATH: Wanted = Wanted::Refused(Refusal::BadPath);
-
-const BAD_CONDITION: Wanted = Wanted::Refused(Refusal::BadCondition);
-
-const BAD_KIND: Wanted = Wanted::Refused(Refusal::BadKind);
-
-const PART_ONLY: Wanted = Wanted::Refused(Refusal::PartOnly);
-
-const NOT_ALLOWED: Wanted = Wanted::Refused(Refusal::NotAllowed {
-    methods: Methods::Storage,
-});
+const TARGETS: &str = r#"
+GET /storage/alice/ | | | desk 0
+GET /storage/alice/notes/x | | | desk 0
+GET /storage/bob/notes/x | | | desk 1
+GET /storage/alice/%C3%A9 | | | desk 0
+GET /storage/alice/a?b=/%2F | | | desk 0
+GET http://localhost/storage/alice/a | | | desk 0
+GET HTTPS://h:1/storage/bob/a?q | | | desk 1
+GET /storage/alice | | | not found
+GET /storage/alice?/a | | | not found
+GET /storage/carol/a | | | not found
+GET /storage/Alice/a | | | not found
+GET /storage//a | | | not found
+GET /Storage/alice/a | | | not found
+GET /storage/%61lice/a | | | not found
+GET / | | | not found
+GET * | | | not found
+PUT * | | | not found
+OPTIONS * | | | preflight
+GET http://localhost | | | not found
+GET http://localhost?/storage/alice/a | | | not found
+GET http://localhost#/storage/alice/a | | | not found
+GET ftp://localhost/storage/alice/a | | | not found
+GET /.well-known/webfinger | | | bad resource
+GET http://localhost/.well-known/webfinger?resource=acct:bob@localhost | | | description
+GET /.well-known/webfinger/?resource=acct:bob@localhost | | | not found
+GET /.Well-known/webfinger?resource=acct:bob@localhost | | | not found
+GET /.well-known | | | not found
+GET /oauth/alice | | | bad address
+GET https://h/oauth/bob | | | bad address
+GET /oauth/carol | | | not found
+GET /oauth/Alice | | | not found
+GET /oauth/alice/ | | | not found
+GET /oauth/ | | | not found
+GET /oauth | | | not found
+"#;
 
 #[test]
 fn targets(rt: HostRuntime) -> Result<(), Fail> {
-    asks(
-        &rt,
-        rt.alloc(),
-        &[
-            ("GET", "/storage/alice/", "", Wanted::Desk(0)),
-            ("GET", "/storage/alice/notes/x", "", Wanted::Desk(0)),
-            ("GET", "/storage/bob/notes/x", "", Wanted::Desk(1)),
-            ("GET", "/storage/alice/%C3%A9", "", Wanted::Desk(0)),
-            ("GET", "/storage/alice/a?b=/%2F", "", Wanted::Desk(0)),
-            (
-                "GET",
-                "http://localhost/storage/alice/a",
-                "",
-                Wanted::Desk(0),
-            ),
-            ("GET", "HTTPS://h:1/storage/bob/a?q", "", Wanted::Desk(1)),
-            ("GET", "/storage/alice", "", NOT_FOUND),
-            ("GET", "/storage/alice?/a", "", NOT_FOUND),
-            ("GET", "/storage/carol/a", "", NOT_FOUND),
-            ("GET", "/storage/Alice/a", "", NOT_FOUND),
-            ("GET", "/storage//a", "", NOT_FOUND),
-            ("GET", "/Storage/alice/a", "", NOT_FOUND),
-            ("GET", "/storage/%61lice/a", "", NOT_FOUND),
-            ("GET", "/", "", NOT_FOUND),
-            ("GET", "*", "", NOT_FOUND),
-            ("PUT", "*", "", NOT_FOUND),
-            ("OPTIONS", "*", "", Wanted::Preflight),
-            ("GET", "http://localhost", "", NOT_FOUND),
-            ("GET", "http://localhost?/storage/alice/a", "", NOT_FOUND),
-            ("GET", "http://localhost#/storage/alice/a", "", NOT_FOUND),
-            ("GET", "ftp://localhost/storage/alice/a", "", NOT_FOUND),
-            ("GET", "/.well-known/webfinger?resource=a", "", NOT_FOUND),
-            ("GET", "/oauth/alice", "", NOT_FOUND),
-        ],
-    )
+    asks(&rt, rt.alloc(), TARGETS)
 }
 
 /// Where two refusals apply, the earlier one comes.
+const REFUSALS: &str = "
+POST /storage/carol/a | | | not found
+get /nothing | | | not found
+POST /storage/alice/a | | | methods of storage
+get /storage/alice/a | | | methods of storage
+PATCH /storage/alice/a | | | methods of storage
+POST /storage/alice/%2F | | | methods of storage
+GET /storage/alice/%2F | | | bad path
+GET /storage/alice/%00 | | | bad path
+GET /storage/alice/%FF | | | bad path
+GET /storage/alice/a%2 | | | bad path
+GET /storage/alice/a/../b | | | bad path
+GET /storage/alice/a//b | | | bad path
+OPTIONS /storage/alice/a//b | | | bad path
+OPTIONS /storage/alice/a | | | preflight
+OPTIONS /storage/alice/a | If-Match: 2 | | preflight
+GET /storage/alice/a | If-Match: 2 | | bad condition
+GET /storage/alice/a | If-None-Match: 2 | | bad condition
+GET /storage/alice/a | If-None-Match: *; if-none-match: * | | bad condition
+GET /storage/alice/a | If-None-Match: \"1\"; IF-NONE-MATCH: \"2\" | | desk 0
+PUT /storage/alice/a | Content-Type: a; Content-Type: b; If-Match: 2 | | bad condition
+PUT /storage/alice/a | Content-Type: a; content-type: a | | bad kind
+PUT /storage/alice/a | Content-Type: a\tb | | bad kind
+PUT /storage/alice/a | Content-Type: a | hello | desk 0
+PUT /storage/alice/a | | hello | desk 0
+GET /storage/alice/a | Content-Type: a; Content-Type: b | | desk 0
+PUT /storage/alice/a | Content-Range: bytes 0-4/5; Content-Type: a\tb | | bad kind
+PUT /storage/alice/a | content-range: bytes 0-4/5 | | part only
+PUT /storage/alice/a | Content-Range: | | part only
+PUT /storage/alice/a | Content-Range: a; Content-Range: b; Content-Type: a | | part only
+DELETE /storage/alice/a | Content-Range: bytes 0-4/5 | | desk 0
+POST /.well-known/webfinger | | | methods of discovery
+PUT /.well-known/webfinger?resource=acct:alice@localhost | | | methods of discovery
+DELETE /.well-known/webfinger | | | methods of discovery
+PATCH /.well-known/webfinger | | | methods of discovery
+OPTIONS /.well-known/webfinger | If-Match: 2 | | preflight
+POST /oauth/carol | | | not found
+PUT /oauth/alice | | | methods of grants
+DELETE /oauth/alice | | | methods of grants
+OPTIONS /oauth/alice | | | methods of grants
+post /oauth/alice | | | methods of grants
+";
+
 #[test]
 fn refusals_in_their_order(rt: HostRuntime) -> Result<(), Fail> {
-    asks(
-        &rt,
-        rt.alloc(),
-        &[
-            // the target, then the method
-            ("POST", "/storage/carol/a", "", NOT_FOUND),
-            ("get", "/nothing", "", NOT_FOUND),
-            ("POST", "/storage/alice/a", "", NOT_ALLOWED),
-            ("get", "/storage/alice/a", "", NOT_ALLOWED),
-            ("PATCH", "/storage/alice/a", "", NOT_ALLOWED),
-            // the method, then the path
-            ("POST", "/storage/alice/%2F", "", NOT_ALLOWED),
-            ("GET", "/storage/alice/%2F", "", BAD_PATH),
-            ("GET", "/storage/alice/%00", "", BAD_PATH),
-            ("GET", "/storage/alice/%FF", "", BAD_PATH),
-            ("GET", "/storage/alice/a%2", "", BAD_PATH),
-            ("GET", "/storage/alice/a/../b", "", BAD_PATH),
-            ("GET", "/storage/alice/a//b", "", BAD_PATH),
-            // the path, then OPTIONS
-            ("OPTIONS", "/storage/alice/a//b", "", BAD_PATH),
-            ("OPTIONS", "/storage/alice/a", "", Wanted::Preflight),
-            // OPTIONS, then the conditions
-            (
-                "OPTIONS",
-                "/storage/alice/a",
-                "If-Match: 2",
-                Wanted::Preflight,
-            ),
-            ("GET", "/storage/alice/a", "If-Match: 2", BAD_CONDITION),
-            ("GET", "/storage/alice/a", "If-None-Match: 2", BAD_CONDITION),
-            (
-                "GET",
-                "/storage/alice/a",
-                "If-None-Match: *\nif-none-match: *",
-                BAD_CONDITION,
-            ),
-            (
-                "GET",
-                "/storage/alice/a",
-                "If-None-Match: \"1\"\nIF-NONE-MATCH: \"2\"",
-                Wanted::Desk(0),
-            ),
-            // the conditions, then the content type
-            (
-                "PUT",
-                "/storage/alice/a",
-                "Content-Type: a\nContent-Type: b\nIf-Match: 2",
-                BAD_CONDITION,
-            ),
-            (
-                "PUT",
-                "/storage/alice/a",
-                "Content-Type: a\ncontent-type: a",
-                BAD_KIND,
-            ),
-            ("PUT", "/storage/alice/a", "Content-Type: a\tb", BAD_KIND),
-            (
-                "PUT",
-                "/storage/alice/a",
-                "Content-Type: a",
-                Wanted::Desk(0),
-            ),
-            ("PUT", "/storage/alice/a", "", Wanted::Desk(0)),
-            (
-                "GET",
-                "/storage/alice/a",
-                "Content-Type: a\nContent-Type: b",
-                Wanted::Desk(0),
-            ),
-            // the content type, then whether the whole is sent
-            (
-                "PUT",
-                "/storage/alice/a",
-                "Content-Range: bytes 0-4/5\nContent-Type: a\tb",
-                BAD_KIND,
-            ),
-            (
-                "PUT",
-                "/storage/alice/a",
-                "content-range: bytes 0-4/5",
-                PART_ONLY,
-            ),
-            ("PUT", "/storage/alice/a", "Content-Range: ", PART_ONLY),
-            (
-                "PUT",
-                "/storage/alice/a",
-                "Content-Range: a\nContent-Range: b\nContent-Type: a",
-                PART_ONLY,
-            ),
-            (
-                "DELETE",
-                "/storage/alice/a",
-                "Content-Range: bytes 0-4/5",
-                Wanted::Desk(0),
-            ),
-        ],
-    )
+    asks(&rt, rt.alloc(), REFUSALS)
+}
+
+const DISCOVERY: &str = r#"
+GET /.well-known/webfinger?resource=acct:alice@localhost | | | description
+HEAD /.well-known/webfinger?resource=acct%3Abob%40LOCALHOST&rel=a | | | description
+GET /.well-known/webfinger?rel=a | | | bad resource
+GET /.well-known/webfinger?resource=alice@localhost | | | bad resource
+GET /.well-known/webfinger?resource=acct:bob@localhost&resource=acct:bob@localhost | | | bad resource
+GET /.well-known/webfinger?resource=acct:carol@localhost | | | not found
+GET /.well-known/webfinger?resource=acct:alice@example.org | | | not found
+GET /.well-known/webfinger | | resource=acct:alice@localhost | bad resource
+"#;
+
+#[test]
+fn users_are_found(rt: HostRuntime) -> Result<(), Fail> {
+    asks(&rt, rt.alloc(), DISCOVERY)
+}
+
+/// In a row `!` stands for what an app asks for.
+const GRANTS: &str = r#"
+GET /oauth/alice?! | | | page
+HEAD /oauth/bob?! | | | page
+GET /oauth/alice | | ! | bad address
+GET /oauth/alice?!&redirect_uri=https://app.example/ | | | bad address
+GET /oauth/alice?!&scope=notes:rw | | | redirect
+POST /oauth/alice?! | | | bad address
+POST /oauth/alice | | !&choice=allow&password=open+sesame | grant 0
+POST /oauth/alice?scope=x | Content-Type: a; Content-Type: b; If-Match: 2 | !&choice=allow&password=open+sesame | grant 0
+POST /oauth/alice | | !&choice=allow&password=open+sesam | page of a denial
+POST /oauth/alice | | !&choice=allow&password=s1open+sesame | page of a denial
+POST /oauth/alice | | !&choice=allow&password=open+sesame&password=open+sesame | page of a denial
+POST /oauth/alice | | !&choice=allow | page of a denial
+POST /oauth/alice | | !&choice=deny&password=open+sesame | redirect
+POST /oauth/alice | | !&choice=other&password=open+sesame | redirect
+POST /oauth/alice | | !&password=open+sesame | redirect
+POST /oauth/alice | | !&state=1&state=2&choice=allow&password=open+sesame | redirect
+POST /oauth/bob | | !&choice=allow&password=open+sesame | page of a denial
+POST /oauth/bob | | !&choice=allow&password= | page of a denial
+POST /oauth/bob | | !&choice=deny | redirect
+"#;
+
+const ASK: &str =
+    "response_type=token&client_id=c&redirect_uri=https%3A%2F%2Fapp.example%2Fcb&scope=notes%3Arw";
+
+/// The table with what an app asks for in place of each `!`.
+fn filled(alloc: Global, table: &str) -> Result<String, NoMemory> {
+    let mut out = String::new(alloc);
+    for c in table.chars() {
+        if c == '!' {
+            out.push_str(ASK)?;
+        } else {
+            out.push(c)?;
+        }
+    }
+    Ok(out)
+}
+
+#[test]
+fn grants_are_asked_for(rt: HostRuntime) -> Result<(), Fail> {
+    let table = filled(rt.alloc(), GRANTS)?;
+    asks(&rt, rt.alloc(), table.as_str())
 }
 
 /// What a pass is, in a word.
@@ -284,8 +357,8 @@ fn pass_word(pass: &Pass) -> &'static str {
 
 /// The call of a PUT with these fields.
 fn call_of(alloc: Global, lines: &str) -> Result<Call, Fail> {
-    let message = message(alloc, "PUT", "/storage/alice/notes/x", lines, false)?;
-    match asked(alloc, &accounts(alloc)?, message)? {
+    let message = message(alloc, "PUT", "/storage/alice/notes/x", lines, "hello")?;
+    match asked(alloc, message)? {
         Asked::Desk {
             request: Request::Store(call),
             ..
@@ -325,7 +398,7 @@ fn passes(rt: HostRuntime) -> Result<(), Fail> {
             "missing",
         ),
         ("Authorization: Basic YWxhZGRpbg==", "missing"),
-        ("Authorization: Basic a\nAuthorization: Basic b", "strange"),
+        ("Authorization: Basic a; Authorization: Basic b", "strange"),
     ] {
         let call = call_of(rt.alloc(), lines)?;
         assert_eq!(&rt; (lines, pass_word(&call.pass)), (lines, word));
@@ -337,7 +410,7 @@ fn passes(rt: HostRuntime) -> Result<(), Fail> {
 fn a_request_is_taken_over_whole(rt: HostRuntime) -> Result<(), Fail> {
     let call = call_of(
         rt.alloc(),
-        "Content-Type: text/plain\nIf-Match: \"1\"\nIf-Match: \"2\"\nIf-None-Match: *",
+        "Content-Type: text/plain; If-Match: \"1\"; If-Match: \"2\"; If-None-Match: *",
     )?;
     assert_eq!(&rt; call.kind.as_slice(), b"text/plain".as_slice());
     assert_eq!(&rt; call.body.as_slice(), b"hello".as_slice());
@@ -587,6 +660,8 @@ fn replies_that_refuse(rt: HostRuntime) -> Result<(), Fail> {
         (Refusal::BadCondition, "400 Bad Request"),
         (Refusal::BadKind, "400 Bad Request"),
         (Refusal::PartOnly, "400 Bad Request"),
+        (Refusal::BadResource, "400 Bad Request"),
+        (Refusal::BadAddress, "400 Bad Request"),
     ] {
         let wanted = format!(in alloc; "HTTP/1.1 {line}\nContent-Length: 0\n\n\n")?;
         reply_is(
@@ -612,6 +687,92 @@ fn replies_that_refuse(rt: HostRuntime) -> Result<(), Fail> {
         reply_is(&rt, alloc, HIDDEN, Answer::Decided(reply), wanted.as_str())?;
     }
     Ok(())
+}
+
+/// A text that was made, as it is written so.
+fn made_is(
+    rt: &impl Abort,
+    alloc: Global,
+    manner: Manner,
+    sheet: Sheet,
+    text: &str,
+    wanted: &str,
+) -> Result<(), Fail> {
+    let text = bytes_of(alloc, text)?;
+    reply_is(rt, alloc, manner, Answer::Made { sheet, text }, wanted)
+}
+
+#[test]
+fn replies_with_a_text_that_was_made(rt: HostRuntime) -> Result<(), Fail> {
+    let alloc = rt.alloc();
+    made_is(
+        &rt,
+        alloc,
+        OPEN,
+        Sheet::Description,
+        "{}",
+        "HTTP/1.1 200 OK\nAccess-Control-Allow-Origin: *\nAccess-Control-Expose-Headers: ETag, Content-Type, Content-Length\nContent-Type: application/jrd+json\nContent-Length: 2\n\n{}\n",
+    )?;
+    made_is(
+        &rt,
+        alloc,
+        BODILESS,
+        Sheet::Description,
+        "{}",
+        "HTTP/1.1 200 OK\nAccess-Control-Allow-Origin: *\nAccess-Control-Expose-Headers: ETag, Content-Type, Content-Length\nContent-Type: application/jrd+json\nContent-Length: 2\n\n\n",
+    )?;
+    made_is(
+        &rt,
+        alloc,
+        HIDDEN,
+        Sheet::ConsentPage,
+        "<p>",
+        "HTTP/1.1 200 OK\nContent-Type: text/html; charset=utf-8\nContent-Length: 3\n\n<p>\n",
+    )?;
+    made_is(
+        &rt,
+        alloc,
+        HIDDEN,
+        Sheet::DeniedPage,
+        "<p>",
+        "HTTP/1.1 403 Forbidden\nContent-Type: text/html; charset=utf-8\nContent-Length: 3\n\n<p>\n",
+    )
+}
+
+#[test]
+fn a_reply_that_redirects(rt: HostRuntime) -> Result<(), Fail> {
+    let alloc = rt.alloc();
+    let address = bytes_of(alloc, "https://app.example/cb#error=access_denied")?;
+    reply_is(
+        &rt,
+        alloc,
+        HIDDEN,
+        Answer::Redirect { address },
+        "HTTP/1.1 302 Found\nLocation: https://app.example/cb#error=access_denied\nContent-Length: 0\n\n\n",
+    )
+}
+
+#[test]
+fn replies_that_list_methods(rt: HostRuntime) -> Result<(), Fail> {
+    let alloc = rt.alloc();
+    reply_is(
+        &rt,
+        alloc,
+        OPEN,
+        Answer::Refused(Refusal::NotAllowed {
+            methods: Methods::Discovery,
+        }),
+        "HTTP/1.1 405 Method Not Allowed\nAccess-Control-Allow-Origin: *\nAccess-Control-Expose-Headers: ETag, Content-Type, Content-Length\nAllow: GET, HEAD, OPTIONS\nContent-Length: 0\n\n\n",
+    )?;
+    reply_is(
+        &rt,
+        alloc,
+        HIDDEN,
+        Answer::Refused(Refusal::NotAllowed {
+            methods: Methods::Grant,
+        }),
+        "HTTP/1.1 405 Method Not Allowed\nAllow: GET, HEAD, POST\nContent-Length: 0\n\n\n",
+    )
 }
 
 /// A fixed reply, by its status and what follows the phrase of that.
