@@ -8,7 +8,7 @@ use Rattle.rs_record.specs.RowReadings.{record_reading}
 use Rattle.rs_rules.specs.declared.request.Request.{Request}
 use Rattle.rs_rules.specs.Answers.{brought}
 
--- what is written or removed is a document, and by a token; other writes are refused on every history
+-- a document is written or removed, and by a token: other writes are refused on every history
 abbrev pub is_worth_a_row : Record → Bool
 is_worth_a_row (Put path kind body writer) = not path.folder && is_some writer
 is_worth_a_row (Remove path writer) = not path.folder && is_some writer
@@ -28,7 +28,7 @@ pub record IsRowOf (row : List ℕ) (what : Record) : Type 0 where
   pub spelled : row ≡ spelling what
   pub back : record_reading (spelling what) ≡ Ok what
 
--- this is what is made for the request: its row, which is read back as the record
+-- this is made for the request: its row, which is read back as the record, or none
 pub record IsMadeFor (made : Option (List ℕ)) (r : Request) : Type 0 where
   pub row : made ≡ row_to_keep r
   pub back : IfSome (record_to_keep r) (λ what. record_reading (spelling what) ≡ Ok what)

@@ -15,11 +15,11 @@ use rs_scope::{Method, Token};
 use std::alloc::Global;
 use std::marker::Model;
 
-/// A request with what of it needs no state: the row of the record that it brings, in which a document's digest stands.
-/// A contract sees it as the request.
+/// A request, and what of it needs no state: the row of the record that it brings, with the digest of a body. A contract
+/// sees it as the request.
 ///
-/// Who waits for a turn prepares the request before: the turn then appends the row as it is. The body is neither digested
-/// nor spelled in it, and where bodies are shared (`Bytes::shared`) it isn't copied.
+/// Whoever has to wait for a turn prepares the request first. The turn then makes room, appends the row and changes the
+/// state: a body is neither digested nor spelled in it, and isn't copied where it is shared (`Bytes::shared`).
 #[derive(Drop)]
 pub struct PreparedRequest<'a> {
     request: &'a Request,
@@ -40,7 +40,7 @@ impl<'a> Model for PreparedRequest<'a> {
 }
 
 impl<'a> PreparedRequest<'a> {
-    /// Prepares a request. No state is looked at, so a request that its turn refuses may have been given a row too.
+    /// Prepares a request. It looks at no state, so a row is made of a write too that its turn will refuse.
     pub fn new(alloc: Global, request: &'a Request) -> Result<PreparedRequest<'a>, NoMemory>
         requires body { is_within_limit request.now ≡ true }
         ensures request { IfOk result (λ prepared. prepared ≡ request.now) }
@@ -57,8 +57,8 @@ impl<'a> PreparedRequest<'a> {
         self.request
     }
 
-    /// The row of the record that it brings, where there is one: of a grant, of a revocation, and of a PUT or a DELETE of a
-    /// document that shows a token. Other requests add no record to any history.
+    /// The row of the record that it brings: of a grant, a revocation, and of a PUT or a DELETE of a document that shows a
+    /// token. There is none of other requests, of which no lawful history takes a record.
     pub fn row(&self) -> Option<&[u8]>
         ensures made { IsMadeFor (option_copied result) self.now }
     {

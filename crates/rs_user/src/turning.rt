@@ -28,8 +28,8 @@ impl<T: Tree> UserState<T> {
     /// comes only where the keeper's count of faults rose; then, and at `NoMemory`, the state stands for what it stood
     /// for, and the rows are as before. All growth is made room for before the row is appended.
     ///
-    /// The request is prepared, and then it has its turn. Where others wait for the state, the two are done apart:
-    /// `PreparedRequest::new`, and `turn_prepared` within the turn.
+    /// The request is prepared, and then answered. Where others wait for the state the two are called apart,
+    /// `PreparedRequest::new` first, and `turn_prepared` in the turn.
     pub fn turn<K: Keeper>(
         &mut self,
         keeper: &mut K,
@@ -50,8 +50,8 @@ impl<T: Tree> UserState<T> {
         self.turn_prepared(keeper, who, &prepared)
     }
 
-    /// The turn of a request that was prepared, as `turn` of the request: no row is spelled in it and no body digested. What
-    /// is made is what depends on the state, the room for one document or grant more, and the reply.
+    /// Answers a request that was prepared, just as `turn` answers the request. No row is spelled and no body digested: what
+    /// is made is what depends on the state, the room for a document or a grant more, and the reply.
     pub fn turn_prepared<K: Keeper>(
         &mut self,
         keeper: &mut K,
