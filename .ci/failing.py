@@ -30,7 +30,7 @@ from dataclasses import dataclass, field
 TOKEN = bytes(range(16))
 OTHER = bytes(16)
 SCOPES = b"*:rw"
-PATIENCE = 60
+PATIENCE = 300
 # The status of a run that was stopped at a call.
 STOPPED = 99
 
