@@ -30,7 +30,7 @@ from dataclasses import dataclass, field
 TOKEN = bytes(range(16))
 OTHER = bytes(16)
 SCOPES = b"*:rw"
-PATIENCE = 60
+PATIENCE = 300
 # The status of a run that was stopped at a call.
 STOPPED = 99
 
@@ -422,7 +422,7 @@ class Trials:
         added = [grant_row(bytes.fromhex(printed.decode()))] if case.words[0] == "grant" and printed else case.adds
         if printed and rows != added:
             raise ValueError(f"it printed {printed}, and the rows that were added are {rows}")
-        if (done.returncode == 0) != bool(printed):
+        if mode != "stop" and (done.returncode == 0) != bool(printed):
             raise ValueError(f"status {done.returncode}, and it printed {printed}")
         if not printed and mode == "memory" and rows:
             raise ValueError(f"memory was wanted, and the rows {rows} were added")
