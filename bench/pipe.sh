@@ -3,8 +3,8 @@
 # 64 MiB, beside a plain copy of the same bytes. Usage: bench/pipe.sh [RUNS], 100 runs of 1,000 requests each if not given,
 # since a connection ends after 1,000 replies. Each run is one process and opens its rows. The PUTs are measured twice, each
 # run over new rows: with the rows in a folder in memory (/dev/shm), and in one below TMPDIR, or /tmp. All PUTs go to one path,
-# since the plain tree scans its lists. It wants python3, and builds the program first, which takes some minutes where nothing
-# was built yet. Never a gate.
+# so that a tree of many documents plays no part (bench/trees.py is for that). It wants python3, and builds the program first,
+# which takes some minutes where nothing was built yet. Never a gate.
 set -euo pipefail
 runs=${1:-100}
 root=$(cd "$(dirname "$0")/.." && pwd)

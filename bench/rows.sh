@@ -1,7 +1,7 @@
 #!/usr/bin/env bash
 # Measures accepted Puts of 1 KiB through one user's state, whose rows are in a database file, against SQLite's own
 # appends of the same rows, and opening a file of rows. Usage: bench/rows.sh [PUTS [ROWS]], 20,000 Puts a round and 100,000
-# rows if not given. All Puts go to one path, since the plain tree scans its lists: what is measured is a turn and its row,
+# rows if not given. All Puts go to one path, over the tree of rs_plain, which scans its lists: what is measured is a turn and its row,
 # and not a tree of many documents. The files lie in a new folder below TMPDIR, or /tmp. It wants python3 with its sqlite3,
 # and proves and builds a program first, which takes some minutes. Never a gate.
 set -euo pipefail

@@ -14,7 +14,7 @@ use Rattle.rs_cli.specs.Runs.{Runs}
 pub ends_unopened : (command : Command) (words : List (List ℕ)) (out : Outside) (note : Note) → file_of command ≡ file.User → ReadsCommand (Ok command) words
     → IsSame out.rows → NotOpened out.rows note → IsUntouched out.words → IsUntouched out.source → IsUntouched out.sink → Runs out words note
 ends_unopened (Pipe serving) words out note wants reads same not_opened drawn source sink =
-    inl (record { command = Pipe serving; right = reads.0; asked = reads.1; done = (drawn, inr (same, source, sink, inl not_opened)) })
+    inl (record { command = Pipe serving; right = reads.0; asked = reads.1; done = inr (same, source, sink, drawn, inl not_opened) })
 ends_unopened (Grant scopes) words out note wants reads same not_opened drawn source sink =
     inl (record { command = Grant scopes; right = reads.0; asked = reads.1; done = (source, inr (same, sink, inl (drawn, not_opened))) })
 ends_unopened (Revoke token) words out note wants reads same not_opened drawn source sink =

@@ -11,7 +11,7 @@ use Rattle.rs_exchange.specs.declared.account.Account.{Account}
 use Rattle.rs_exchange.specs.declared.account.Config.{Config}
 use Rattle.rs_exchange.specs.declared.verb.Verb.{Verb}
 use Rattle.rs_exchange.specs.declared.verb.Verb.TheVariants.{Post}
-use Rattle.rs_exchange.specs.Grants.{fits}
+use Rattle.rs_exchange.specs.Grants.{fits_account}
 use Rattle.rs_exchange.specs.Targets.{Target, Grant}
 use Rattle.rs_exchange.specs.declared.asked.Asked.{Asked}
 use Rattle.rs_exchange.specs.declared.asked.Asked.TheVariants.{Desk, Now, Consent}
@@ -42,4 +42,4 @@ pub record IsAllowed (config : Config) (v : Verb) (t : Target) (body : List ℕ)
   pub there : slice_get config.accounts user ≡ Some account
   pub password : List ℕ
   pub read : consent_reading body ≡ Ok (ask, Allow (Some password))
-  pub fits : fits account password ≡ true
+  pub fits : fits_account account password ≡ true

@@ -65,13 +65,13 @@ abbrev pub fits_secret : List ℕ → Option (List ℕ) → List ℕ → Bool
 fits_secret salt None password = false
 fits_secret salt (Some secret) password = password_fits salt secret password
 
-abbrev pub fits : Account → List ℕ → Bool
-fits account password = fits_secret account.salt account.secret password
+abbrev pub fits_account : Account → List ℕ → Bool
+fits_account account password = fits_secret account.salt account.secret password
 
 -- the same of a form, which may have none
 abbrev pub may_enter : Account → Option (List ℕ) → Bool
 may_enter account None = false
-may_enter account (Some password) = fits account password
+may_enter account (Some password) = fits_account account password
 
 -- what was allowed is granted to whom the password is the user's
 abbrev pub asked_allowed : Account → ℕ → Ask → Bool → Asked

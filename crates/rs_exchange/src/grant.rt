@@ -7,7 +7,7 @@ ghost use Rattle.rs_grant.specs.Pages.{page_text};
 ghost use Rattle.rs_grant.specs.Redirects.{redirect_text};
 ghost use Rattle.rs_exchange.specs.declared.answer.Answer.TheVariants.{Made, Redirect};
 ghost use Rattle.rs_exchange.specs.declared.asked.Asked.TheVariants.{Now};
-ghost use Rattle.rs_exchange.specs.Grants.{asked_page, asked_consent, asked_by_choice, asked_by_method, asked_grant, fits, may_enter, sent_back, Refuses};
+ghost use Rattle.rs_exchange.specs.Grants.{asked_page, asked_consent, asked_by_choice, asked_by_method, asked_grant, fits_account, may_enter, sent_back, Refuses};
 ghost use Rattle.rs_exchange.specs.Refusals.{refused};
 ghost use Rattle.rs_exchange.specs.declared.refusal.Methods.TheVariants.{Grant};
 ghost use Rattle.rs_exchange.specs.declared.refusal.Refusal.TheVariants.{NotAllowed};
@@ -125,7 +125,7 @@ fn may_enter(account: &Account, password: &Option<Bytes>) -> bool
 }
 
 fn fits(account: &Account, password: &[u8]) -> bool
-    ensures fits { result ≡ fits account.now password.now }
+    ensures fits { result ≡ fits_account account.now password.now }
 {
     match &account.secret {
         Some(secret) => password_fits(account.salt.as_slice(), secret, password),

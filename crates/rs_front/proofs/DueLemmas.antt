@@ -23,7 +23,7 @@ use Rattle.rs_exchange.specs.declared.asked.Asked.{Asked}
 use Rattle.rs_exchange.specs.declared.asked.Asked.TheVariants.{Desk, Now, Consent}
 use Rattle.rs_exchange.specs.Requests.{asked_of}
 use Rattle.rs_exchange.specs.Manners.{manner_of}
-use Rattle.rs_front.specs.Due.{Users, Outcome, answered, unkept, plain, starved, drew, undrawn, request_of, told_of, words_of, drawn_of, is_undrawn, Draws, answer_of, answer_bytes, interim_of, message_bytes, due, OthersStay, AllStay, GoesOn, GoesAlong, is_unkept, HasFaults}
+use Rattle.rs_front.specs.Due.{Users, Outcome, answered, unkept, plain, starved, drew, undrawn, request_of, app_told, words_of, drawn_of, is_undrawn, Draws, answer_of, answer_bytes, interim_of, message_bytes, due, OthersStay, AllStay, GoesOn, GoesAlong, is_unkept, HasFaults}
 
 -- ---- histories that go on
 
@@ -177,7 +177,7 @@ answer_stays users now later (Consent user ask) plain old middle goes first seco
 answer_stays users now later (Consent user ask) starved old middle goes first second = refl
 answer_stays users now later (Consent user ask) (drew x y o) old middle goes first second =
     let token = bytes_of_words x y in
-    ap (option_map (told_of ask token)) (answer_stays users now later (Desk user (request_of ask token)) o old middle goes first second)
+    ap (option_map (app_told ask token)) (answer_stays users now later (Desk user (request_of ask token)) o old middle goes first second)
 answer_stays users now later (Consent user ask) (undrawn words) old middle goes first second = refl
 
 -- what was due stays due

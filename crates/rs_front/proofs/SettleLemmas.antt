@@ -32,7 +32,7 @@ use Rattle.rs_exchange.specs.Asking.{AsksOf}
 use Rattle.rs_exchange.specs.Requests.{asked_line, asked_of}
 use Rattle.rs_exchange.specs.Targets.{RequestLine, request_line_of}
 use Rattle.rs_request.specs.declared.field.Field.{Field}
-use Rattle.rs_front.specs.Due.{Users, Outcome, answered, unkept, plain, starved, drew, undrawn, words_of, is_undrawn, request_of, told_of, answer_of, answer_bytes, GoesOn}
+use Rattle.rs_front.specs.Due.{Users, Outcome, answered, unkept, plain, starved, drew, undrawn, words_of, is_undrawn, request_of, app_told, answer_of, answer_bytes, GoesOn}
 use Rattle.rs_front.specs.Settling.{IsReplyMade, IsTold, AsksGrant, Decides, Settles, SettlesDrawn, RepliesTo}
 use Rattle.rs_front.specs.Drawing.{DrawsToken, DrawsFew}
 use Rattle.rs_front.proofs.DueLemmas.{known_none, draws_none}
@@ -281,20 +281,20 @@ grant_starved users manner user ask token old before now e f decided = record {
 
 -- the desk answered, and the app is told
 pub grant_told : (users : Users) (manner : Manner) (user : ℕ) (ask : Ask) (token : List ℕ) (old : ℕ → History) (before now : ℕ) (a : Answer) (w : Written) → {E F : Type 0}
-    → w.head.items ++ w.body ≡ reply_bytes manner (told_of ask token a) → Decides {E = E} users (Desk user (request_of ask token)) old before now (Ok a)
+    → w.head.items ++ w.body ≡ reply_bytes manner (app_told ask token a) → Decides {E = E} users (Desk user (request_of ask token)) old before now (Ok a)
     → AsksGrant {E = F} users manner user ask token old before now (Ok w)
 grant_told users manner user ask token old before now a w bytes decided = record {
   outcome = decided.outcome;
   goes_on = decided.goes_on;
   unkept = decided.unkept;
-  told = bytes ∙ ap (λ (o : Option Answer). answer_bytes manner (option_map (told_of ask token) o)) (sym decided.answer);
+  told = bytes ∙ ap (λ (o : Option Answer). answer_bytes manner (option_map (app_told ask token) o)) (sym decided.answer);
 }
 
 -- what a grant comes to, by the words of its token
 told_made : (users : Users) (manner : Manner) (user : ℕ) (ask : Ask) (first second : ℕ) (o : Outcome) → {E : Type 0} (r : Result Written E)
     → IsTold users manner user ask (bytes_of_words first second) o r → IsReplyMade users manner (Consent user ask) (drew first second o) r
 told_made users manner user ask first second o (Ok w) told = told
-told_made users manner user ask first second o (Err e) told = ap (option_map (told_of ask (bytes_of_words first second))) told
+told_made users manner user ask first second o (Err e) told = ap (option_map (app_told ask (bytes_of_words first second))) told
 
 -- the words of a token were drawn, and the grant came to this
 pub grant_drawn : (users : Users) (manner : Manner) (user : ℕ) (ask : Ask) (token : List ℕ) (old : ℕ → History) (before now : ℕ) (entropy : Course (List ℕ)) → {E : Type 0}

@@ -59,8 +59,8 @@ is_granted (Decided Granted) = true
 is_granted other = false
 
 -- what the app is told, by what the desk answers
-abbrev pub told_of : Ask → List ℕ → Answer → Answer
-told_of ask token answer = if is_granted answer then sent_back ask (Token token) else not_granted ask
+abbrev pub app_told : Ask → List ℕ → Answer → Answer
+app_told ask token answer = if is_granted answer then sent_back ask (Token token) else not_granted ask
 
 -- what is answered, or None for want of memory; an outcome that isn't the message's gives None too
 abbrev pub answer_of : Users → Asked → Outcome → Option Answer
@@ -73,7 +73,7 @@ answer_of users (asked.Desk user r) (undrawn words) = None
 answer_of users (asked.Now answer) plain = Some answer
 answer_of users (asked.Now answer) other = None
 answer_of users (asked.Consent user ask) (drew first second outcome) =
-    let token = bytes_of_words first second in option_map (told_of ask token) (answer_of users (asked.Desk user (request_of ask token)) outcome)
+    let token = bytes_of_words first second in option_map (app_told ask token) (answer_of users (asked.Desk user (request_of ask token)) outcome)
 answer_of users (asked.Consent user ask) (undrawn words) = Some (not_granted ask)
 answer_of users (asked.Consent user ask) other = None
 

@@ -12,7 +12,7 @@ use Rattle.rs_exchange.specs.declared.manner.Manner.{Manner}
 use Rattle.rs_exchange.specs.declared.reply.Written.{Written}
 use Rattle.rs_exchange.specs.Manners.{manner_of}
 use Rattle.rs_exchange.specs.Requests.{asked_of}
-use Rattle.rs_front.specs.Due.{Users, Outcome, request_of, told_of, answer_of, answer_bytes, GoesOn, HasFaults, Draws}
+use Rattle.rs_front.specs.Due.{Users, Outcome, request_of, app_told, answer_of, answer_bytes, GoesOn, HasFaults, Draws}
 
 -- the outcome has this answer, or memory was wanted
 abbrev pub IsAnswer : {E : Type 0} → Users → Asked → Outcome → Result Answer E → Type 0
@@ -41,7 +41,7 @@ pub record Settles {E : Type 0} (users : Users) (manner : Manner) (asked : Asked
 -- the bytes of the reply are those that the app is told of this outcome of asking that the token has the scopes, or memory was wanted
 abbrev pub IsTold : {E : Type 0} → Users → Manner → ℕ → Ask → List ℕ → Outcome → Result Written E → Type 0
 IsTold users manner user ask token outcome (Ok written) =
-    written.head.items ++ written.body ≡ answer_bytes manner (option_map (told_of ask token) (answer_of users (Desk user (request_of ask token)) outcome))
+    written.head.items ++ written.body ≡ answer_bytes manner (option_map (app_told ask token) (answer_of users (Desk user (request_of ask token)) outcome))
 IsTold users manner user ask token outcome (Err e) = answer_of users (Desk user (request_of ask token)) outcome ≡ None
 
 -- a desk was asked that the token has the scopes, and what the app is told was made

@@ -10,7 +10,7 @@ use rs_face::{Keeper, MemKeeper};
 use rs_path::{Bytes, Path};
 use rs_plain::PlainTree;
 use rs_rules::{Desk, OpenFault, Request, Tree};
-use rs_scope::Scopes;
+use rs_scope::{Scopes, Token};
 use rs_user::{SoloDesk, UserState};
 use std::alloc::Global;
 use std::process::Abort;
@@ -172,6 +172,44 @@ fn a_damaged_row_is_named_wherever_it_stands(rt: HostRuntime) -> Result<(), Fail
 }
 
 // ---- grants, and the state itself
+
+// A row that begins so, goes on with the token of this number, and ends so.
+fn token_row(alloc: Global, start: &[u8], number: u64, end: &[u8]) -> Result<Bytes, Fail> {
+    let mut row = Vec::from_slice(alloc, start)?;
+    row.extend_from_slice(Token::of_words(0, number).as_bytes())?;
+    row.extend_from_slice(end)?;
+    Ok(Bytes::of(row))
+}
+
+// The rows of grants to the tokens of these numbers, and of revocations behind them.
+fn granted_rows(alloc: Global, granted: &[u64], revoked: &[u64]) -> Result<MemKeeper, Fail> {
+    let mut rows = Vec::new(alloc);
+    for number in granted {
+        rows.push(token_row(alloc, b"\x01\x03", *number, b"\x00\x08notes:rw")?)?;
+    }
+    for number in revoked {
+        rows.push(token_row(alloc, b"\x01\x04", *number, b"")?)?;
+    }
+    Ok(MemKeeper::new(rows, Vec::new(alloc)))
+}
+
+#[test]
+fn tokens_are_found_whatever_the_order_of_their_grants(rt: HostRuntime) -> Result<(), Fail> {
+    let alloc = rt.alloc();
+    let mut keeper = granted_rows(alloc, &[5, 1, 4, 2, 6, 3], &[4, 1])?;
+    let Ok(state) = UserState::<PlainTree>::open(alloc, &mut keeper, 0) else {
+        return Err("rows that aren't opened")?;
+    };
+    for number in 0..8u64 {
+        let there = matches!(number, 2 | 3 | 5 | 6);
+        assert_eq!(rt;
+            state.granted(&Token::of_words(0, number)),
+            there,
+            "token {number}"
+        );
+    }
+    Ok(())
+}
 
 // A desk of a user whose token is granted: it isn't granted again before it is revoked.
 fn grant_and_revoke<D: Desk>(rt: &impl Abort, alloc: Global, desk: &mut D) -> Result<(), Fail>

@@ -22,7 +22,7 @@ use Rattle.sqlite.specs.Program.{overlay}
 use Rattle.sqlite.proofs.Callers.{IsPlain, command_of, statement_of, runs_as, first_as, one_step, one_permutation, never_commits}
 use Rattle.sqlite.proofs.StateLemmas.{survives_weaker}
 use Rattle.rs_sqlite.specs.Limits.{max_rows}
-use Rattle.rs_sqlite.specs.Tables.{kept_table, kept_schema, empty_schema, entry_at, entries_of, HoldsNothing, HoldsRows, OpensAs, LeavesRows, HasRows}
+use Rattle.rs_sqlite.specs.Tables.{kept_table, kept_schema, empty_schema, entry_at, entries_of, HoldsNothing, HoldsRows, IsOpenedAs, LeavesRows, HasRows}
 use Rattle.rs_sqlite.proofs.Texts.{create_text, insert_text, fetch_text, insert_terms, fetch_query, create_is, create_again_is, insert_is, fetch_is, unlisted, create_plain, create_again_plain, insert_plain, fetch_plain}
 use Rattle.rs_sqlite.proofs.EntryLemmas.{cast-Int, cast-Null, put_behind, one_picked}
 
@@ -210,7 +210,7 @@ commits old rows row n db is h ran =
 
 -- ---- the statements as the keeper makes them
 
-pub makes : (old new : State) (rows : List (List ℕ)) (r : Result ℕ Error) → OpensAs old rows → Executes create_text [] old new r → OnOk r (HoldsRows new rows)
+pub makes : (old new : State) (rows : List (List ℕ)) (r : Result ℕ Error) → IsOpenedAs old rows → Executes create_text [] old new r → OnOk r (HoldsRows new rows)
 makes old new rows (Err e) there ran = tt
 makes old new rows (Ok count) (inl there) ran = creates_again old new rows count there ran
 makes old new rows (Ok count) (inr (nothing, none)) ran = subst (HoldsRows new) (sym none) (creates old new count nothing ran)

@@ -4,7 +4,8 @@ use Rattle.sqlite.specs.Tree.{Trees}
 use Rattle.sqlite.specs.Store.{Ghosts}
 use Rattle.sqlite.specs.Held.{state}
 use Rattle.sqlite.specs.State.{State, HasCleanDisk, Survives}
-use Rattle.rs_sqlite.specs.Tables.{bytes_in, rows_in, entries_from, HoldsRows}
+use Rattle.sqlite.specs.Steps.{IsEmpty}
+use Rattle.rs_sqlite.specs.Tables.{bytes_in, rows_in, entries_from, HoldsRows, IsOpenedAs}
 use Rattle.rs_sqlite.specs.Keeping.{Keeping, KeepsRows, StillKeeps}
 
 bytes_of_entries : (n : ℕ) (rows : List (List ℕ)) → map bytes_in (entries_from n rows) ≡ rows
@@ -18,6 +19,10 @@ told_rows s rows h = ap (map bytes_in) h.table ∙ bytes_of_entries 1 rows
 -- a keeper of some rows is one of the rows that it tells
 pub keeps_told : {S : Type 0} (g : Ghosts S) (keeper : Keeping S) (rows : List (List ℕ)) → KeepsRows g keeper rows → KeepsRows g keeper (rows_in (state g keeper.connection).now.trees)
 keeps_told g keeper rows it = subst (KeepsRows g keeper) (sym (told_rows _ rows it.holds)) it
+
+-- a new database is opened as no rows
+pub nothing_yet : (s : State) → IsEmpty s → IsOpenedAs s []
+nothing_yet s it = inr (record { settled = record { is_open = it.0.is_open; autocommit = it.0.autocommit; committed = sym it.0.clean }; schema = it.2 }, refl)
 
 -- a connection without a fault stays open
 pub stays_open : (old new : State) (P : Trees → Type 0) → Survives old new P → HasCleanDisk new → new.faults ≡ 0 → IsTrue old.is_open → IsTrue new.is_open

@@ -69,8 +69,8 @@ pub record HoldsRows (s : State) (rows : List (List ℕ)) : Type 0 where
   pub table : s.now.trees 0 ≡ entries_of rows
 
 -- a database that is opened as these rows: it has them, or it is new and they are none
-abbrev pub OpensAs : State → List (List ℕ) → Type 0
-OpensAs s rows = HoldsRows s rows ⊎ (HoldsNothing s × (rows ≡ []))
+abbrev pub IsOpenedAs : State → List (List ℕ) → Type 0
+IsOpenedAs s rows = HoldsRows s rows ⊎ (HoldsNothing s × (rows ≡ []))
 
 -- a statement that failed left the rows, unless it closed the connection
 abbrev pub LeavesRows : State → List (List ℕ) → Type 0

@@ -2,10 +2,12 @@
 #![tactic(auto)]
 
 mod limits;
+mod reopening;
 mod sql_keeper;
 mod statements;
 mod telling_keeper;
 
 pub use limits::{MAX_ROWS, limit_laws};
+pub use reopening::reopen;
 pub use sql_keeper::SqlKeeper;
 pub use telling_keeper::{Steadfast, TellingKeeper};

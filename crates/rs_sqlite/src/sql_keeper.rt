@@ -5,7 +5,7 @@ ghost use Rattle.sqlite.specs.State.{HasCleanDisk, Survives};
 ghost use Rattle.rs_face.specs.Causes.{one_more, HasCause};
 ghost use Rattle.rs_sqlite.specs.Limits.{max_rows};
 ghost use Rattle.rs_sqlite.specs.Keeping.{fault_of, faults_after, KeepsRows, StillKeeps};
-ghost use Rattle.rs_sqlite.specs.Tables.{OpensAs, HasRows};
+ghost use Rattle.rs_sqlite.specs.Tables.{IsOpenedAs, HasRows};
 
 use crate::limits::MAX_ROWS;
 use crate::statements::{fetch, insert, rows_of};
@@ -61,8 +61,10 @@ impl<S: Alter + Drop> SqlKeeper<S> {
     /// one, are opened as the rows that they have.
     pub fn open(connection: Connection<S>) -> Result<SqlKeeper<S>, KeepFault>
         ensures faults { IfOk result (λ keeper. keeper.faults ≡ 0) }
-        ensures rows { (rows : List (List ℕ)) → OpensAs (state S.Store connection) rows
+        ensures rows { (rows : List (List ℕ)) → IsOpenedAs (state S.Store connection) rows
             → IfOk result (λ keeper. HasCleanDisk (state S.Store keeper.connection) → KeepsRows S.Store keeper rows) }
+        // A disk that is clean now was clean before.
+        ensures clean { IfOk result (λ keeper. HasCleanDisk (state S.Store keeper.connection) → HasCleanDisk (state S.Store connection)) }
     {
         let mut connection = connection;
         if !connection.is_autocommit() {
@@ -203,7 +205,8 @@ impl<S: Alter> SqlKeeper<S> {
     }
 }
 
-fn fault_of(error: &Error) -> KeepFault
+/// What a refused statement is answered with.
+pub(crate) fn fault_of(error: &Error) -> KeepFault
     ensures { result ≡ fault_of error.now }
 {
     match error {

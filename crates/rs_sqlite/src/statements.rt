@@ -6,7 +6,7 @@ ghost use Rattle.sqlite.specs.Order.{column};
 ghost use Rattle.sqlite.specs.Held.{state};
 ghost use Rattle.sqlite.specs.State.{HasCleanDisk, Survives};
 ghost use Rattle.rs_sqlite.specs.Limits.{max_rows};
-ghost use Rattle.rs_sqlite.specs.Tables.{HoldsRows, OpensAs, LeavesRows, HasRows};
+ghost use Rattle.rs_sqlite.specs.Tables.{HoldsRows, IsOpenedAs, LeavesRows, HasRows};
 
 use sqlite::{Alter, Connection, Error, Row, params};
 
@@ -14,10 +14,11 @@ use sqlite::{Alter, Connection, Error, Row, params};
 /// is made where it isn't there.
 pub(crate) fn rows_of<S: Alter>(connection: &mut Connection<S>) -> Result<Option<u64>, Error>
     ensures few { IfOk result (λ rows. IfSome rows (λ count. count ≤ max_rows)) }
-    ensures holds { (rows : List (List ℕ)) → OpensAs (state S.Store connection.old) rows
+    ensures holds { (rows : List (List ℕ)) → IsOpenedAs (state S.Store connection.old) rows
         → HasCleanDisk (state S.Store connection.new) → OnOk result (HoldsRows (state S.Store connection.new) rows) }
-    ensures count { (rows : List (List ℕ)) → OpensAs (state S.Store connection.old) rows
+    ensures count { (rows : List (List ℕ)) → IsOpenedAs (state S.Store connection.old) rows
         → HasCleanDisk (state S.Store connection.new) → IfOk result (λ found. IfSome found (λ count. count ≡ length rows)) }
+    ensures clean { HasCleanDisk (state S.Store connection.new) → HasCleanDisk (state S.Store connection.old) }
 {
     make_table(connection)?;
     let row = ask_count(connection)?;
@@ -25,8 +26,9 @@ pub(crate) fn rows_of<S: Alter>(connection: &mut Connection<S>) -> Result<Option
 }
 
 fn make_table<S: Alter>(connection: &mut Connection<S>) -> Result<usize, Error>
-    ensures holds { (rows : List (List ℕ)) → OpensAs (state S.Store connection.old) rows
+    ensures holds { (rows : List (List ℕ)) → IsOpenedAs (state S.Store connection.old) rows
         → HasCleanDisk (state S.Store connection.new) → OnOk result (HoldsRows (state S.Store connection.new) rows) }
+    ensures clean { HasCleanDisk (state S.Store connection.new) → HasCleanDisk (state S.Store connection.old) }
 {
     connection.execute(
         "CREATE TABLE IF NOT EXISTS kept(n INTEGER PRIMARY KEY, bytes BLOB NOT NULL)",

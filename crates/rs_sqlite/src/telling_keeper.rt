@@ -1,12 +1,14 @@
 //! A keeper over a database that tells its rows.
-ghost use Rattle.std.specs.Prelude.{◌≡◌};
+ghost use Rattle.std.specs.Prelude.{◌≡◌, ℕ, List, [], IfOk};
 ghost use Rattle.sqlite.specs.Held.{state};
+ghost use Rattle.sqlite.specs.Steps.{over_memory};
 ghost use Rattle.rs_sqlite.specs.Keeping.{KeepsRows};
-ghost use Rattle.rs_sqlite.specs.Tables.{rows_in};
+ghost use Rattle.rs_sqlite.specs.Tables.{IsOpenedAs, rows_in};
 
 use crate::sql_keeper::SqlKeeper;
 use rs_face::{KeepFault, Keeper};
-use sqlite::{Alter, MemStore};
+use sqlite::{Alter, Connection, MemStore};
+use std::alloc::Global;
 use std::marker::Model;
 
 /// A store whose disk always returns what was written, and never fails.
@@ -60,6 +62,26 @@ impl<S: Steadfast + Drop> TellingKeeper<S> {
         ensures { result ≡ keeper }
     {
         TellingKeeper { keeper }
+    }
+
+    /// A keeper of the rows of a database, which tells them. The errors are those of `SqlKeeper::open`.
+    pub fn open(connection: Connection<S>) -> Result<TellingKeeper<S>, KeepFault>
+        requires opens { (rows : List (List ℕ)) × IsOpenedAs (state S.Store connection) rows }
+        ensures rows { (rows : List (List ℕ)) → IsOpenedAs (state S.Store connection) rows
+            → IfOk result (λ keeper. rows_in (state S.Store keeper.connection).now.trees ≡ rows) }
+        ensures faults { IfOk result (λ keeper. keeper.faults ≡ 0) }
+    {
+        Ok(TellingKeeper::new(SqlKeeper::open(connection)?))
+    }
+}
+
+impl TellingKeeper<MemStore> {
+    /// A keeper in memory, of no rows yet.
+    pub fn in_memory(alloc: Global) -> Result<TellingKeeper<MemStore>, KeepFault>
+        ensures rows { IfOk result (λ keeper. rows_in (state over_memory keeper.connection).now.trees ≡ []) }
+        ensures faults { IfOk result (λ keeper. keeper.faults ≡ 0) }
+    {
+        TellingKeeper::open(Connection::open_in_memory(alloc)?)
     }
 }
 

@@ -3,6 +3,7 @@ mod GrantLemmas
 mod MayLemmas
 mod SpellingLemmas
 mod OpeningLemmas
+mod PreparationLemmas
 mod RegrantLemmas
 mod StandingLemmas
 mod StepLemmas

@@ -1,7 +1,7 @@
 -- What stands rightly, and what the answers tell of it.
 use Rattle.std.proofs.Common.{◌≡◌, ℕ, ◌<◌, ◌≤◌, Bool, true, false, not, List, [], ◌∷◌, length, Option, Some, None, arith, refl, sym, ap, ◌∙◌, ⊎_elim}
 use Rattle.std.specs.Prelude.{nat_le, is_some, is_none, option_map, find}
-use Rattle.std.proofs.lemmas.Bool.{cases_Bool, cond-false, true≢false, and_parts, and_from}
+use Rattle.std.proofs.lemmas.Bool.{cases_Bool, cond-false, true≢false, and_parts}
 use Rattle.std.proofs.lemmas.Bool.Decides.{nat_tests}
 use mathlib.Core.Bool.{beq}
 use Rattle.rs_path.specs.Limits.{max_body}
@@ -10,8 +10,7 @@ use Rattle.rs_scope.specs.declared.method.Method.{Method}
 use Rattle.rs_scope.specs.declared.method.Method.TheVariants.{Get, Head, Put, Delete}
 use Rattle.rs_scope.specs.declared.scope.Scope.{Scope}
 use Rattle.rs_record.specs.declared.records.Record.TheVariants.{Put as PutRecord}
-use Rattle.rs_record.specs.Records.{body_limit, has_parts, is_record}
-use Rattle.rs_rules.specs.declared.call.Call.{Call}
+use Rattle.rs_record.specs.Records.{body_limit}
 use Rattle.rs_rules.specs.declared.placed.Placed.{Placed}
 use Rattle.rs_rules.specs.declared.reply.Reply.TheVariants.{Granted, Revoked}
 use Rattle.rs_rules.specs.declared.request.Request.TheVariants.{Grant, Revoke}
@@ -21,7 +20,7 @@ use Rattle.rs_rules.specs.Documents.{doc_in}
 use Rattle.rs_rules.specs.Tokens.{scopes_of}
 use Rattle.rs_rules.specs.Requests.{is_short_for}
 use Rattle.rs_rules.specs.Snapshots.{snapshot}
-use Rattle.rs_rules.specs.Answers.{is_put, answer, token_of, put_record}
+use Rattle.rs_rules.specs.Answers.{is_put, answer}
 use Rattle.rs_rules.specs.Lawful.{may_follow}
 use Rattle.rs_rules.specs.Sound.{are_documents}
 
@@ -35,13 +34,6 @@ pub put_short : (h : History) (path : Path) (kind body : List ℕ) (writer : Opt
 put_short h path kind body writer may =
     let parts = and_parts (not path.folder) _ may in
     limited writer (length body) (and_parts (nat_le (length body) (body_limit writer)) _ parts.1).0
-
--- a Put that stands rightly is a record
-pub put_is_record : (h : History) (call : Call) → has_parts (put_record call) ≡ true → may_follow (snapshot h) (put_record call) ≡ true → is_record (put_record call) ≡ true
-put_is_record h call parts may =
-    let folder = and_parts (not call.path.folder) _ may in
-    let body = and_parts (nat_le (length call.body) (body_limit (token_of call.pass))) _ folder.1 in
-    and_from (has_parts (put_record call)) _ parts (and_from (not call.path.folder) _ folder.0 body.0)
 
 -- the body of a Put
 pub put_within : (method : Method) (body : List ℕ) → is_short_for method body ≡ true → is_put method ≡ true → length body ≤ max_body

@@ -14,7 +14,7 @@ use Rattle.rs_rules.specs.Histories.{History, start, empty_base, with_entry}
 use Rattle.rs_rules.specs.Contents.{Contents}
 use Rattle.rs_user.specs.declared.state.UserState.{UserState}
 use Rattle.rs_user.specs.Standing.{StandsFor}
-use Rattle.rs_user.specs.Openings.{may_be_next, with_reading, if_opened, opening_from, opening, rows_of, by_nobody, Opened, Opens, TakesRow}
+use Rattle.rs_user.specs.Openings.{may_be_next, with_reading, if_opened, opening_from, opening, rows_of, by_nobody, AreRows, Opened, StandsAnew, Opens, TakesRow}
 use Rattle.rs_user.proofs.SpellingLemmas.{nobody_more}
 
 -- the rows before the index are opened as the history
@@ -75,6 +75,14 @@ drop_past [] (suc n) past = refl
 drop_past (x ∷ xs) zero past = absurd (omega arith)
 drop_past (x ∷ xs) (suc n) past = drop_past xs n (omega arith)
 
+-- the rows are those of the history, where all of them were read
+all_rows : (h : History) (kept : List (List ℕ)) (index : ℕ) → length kept ≤ index → IsUnderWay index h kept → AreRows kept h
+all_rows h kept index all before =
+    let none : drop index kept ≡ [] = drop_past kept index all in (
+      before.rows ∙ ap (λ rest. rows_of h ++ rest) none ∙ append-nil (rows_of h),
+      before.left ∙ ap (opening_from index h) none ∙ ap Ok before.nobody,
+    )
+
 -- what holds of the told rows, by two things that do
 pub both : {A : Type 0} {P Q S : A → Type 0} (told : Option A) → IfSome told P → IfSome told Q → ((kept : A) → P kept → Q kept → S kept) → IfSome told S
 both None p q f = p
@@ -86,21 +94,29 @@ module _ {T R : Type 0} (tree_stands : T → Contents → Type 0) where
     pub stands : StandsFor tree_stands state h
     pub rows : state.rows ≡ index
     pub quota : state.quota ≡ limit
+    pub whole : h.base ≡ empty_base
+    pub nobody : h ≡ by_nobody h
     pub told_rows : IfSome told (IsUnderWay index h)
 
   is_opened : (state : UserState T R) (h : History) (kept : List (List ℕ)) (index : ℕ) → length kept ≤ index → StandsFor tree_stands state h
       → IsUnderWay index h kept → Opened tree_stands state kept
-  is_opened state h kept index all stands before =
-      let none : drop index kept ≡ [] = drop_past kept index all in
-      record {
-        history = h;
-        spelled = before.left ∙ ap (opening_from index h) none;
-        rows = (
-          before.rows ∙ ap (λ rest. rows_of h ++ rest) none ∙ append-nil (rows_of h),
-          before.left ∙ ap (opening_from index h) none ∙ ap Ok before.nobody,
-        );
-        stands = stands;
-      }
+  is_opened state h kept index all stands before = record {
+    history = h;
+    spelled = before.left ∙ ap (opening_from index h) (drop_past kept index all);
+    rows = all_rows h kept index all before;
+    stands = stands;
+  }
+
+  -- all rows were read, and no history stands before theirs
+  pub all_anew : (state : UserState T R) (h : History) (told : Option (List (List ℕ))) (index limit : ℕ) → HasOpened state h told index limit
+      → IfSome told (λ kept. length kept ≤ index) → StandsAnew tree_stands state told
+  all_anew state h told index limit before all = record {
+    history = h;
+    stands = before.stands;
+    whole = before.whole;
+    nobody = before.nobody;
+    rows = both told before.told_rows all (λ kept under ended. all_rows h kept index ended under);
+  }
 
   -- all rows were read
   pub all_opened : (state : UserState T R) (h : History) (told : Option (List (List ℕ))) (index limit : ℕ) → HasOpened state h told index limit
@@ -117,6 +133,8 @@ module _ {T R : Type 0} (tree_stands : T → Contents → Type 0) where
     stands = stands;
     rows = counted ∙ ap (λ n. n + 1) before.rows;
     quota = quota ∙ before.quota;
+    whole = before.whole;
+    nobody = ap (λ (x : History). and_read x what) before.nobody ∙ nobody_more h 0 what;
     told_rows = both told before.told_rows found (λ kept under is. goes_on index h kept row what is reads spelled may under);
   }
 

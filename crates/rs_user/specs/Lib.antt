@@ -2,5 +2,6 @@ pub mod Grants
 pub mod Standing
 pub mod Decisions
 pub mod Turns
+pub mod Preparations
 pub mod Openings
 pub mod Regrants

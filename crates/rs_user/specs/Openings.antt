@@ -68,6 +68,15 @@ module _ {T R : Type 0} (tree_stands : T → Contents → Type 0) where
     pub rows : AreRows kept history
     pub stands : StandsFor tree_stands state history
 
+  -- the state stands for a history of which nothing was given up, nor is it known who made its entries, and whose rows these
+  -- are, where they are told
+  pub record StandsAnew (state : UserState T R) (told : Option (List (List ℕ))) : Type 0 where
+    pub history : History
+    pub stands : StandsFor tree_stands state history
+    pub whole : history.base ≡ empty_base
+    pub nobody : history ≡ by_nobody history
+    pub rows : AreToldRows told history
+
   -- the rows were opened, or refused at the first row that is wrong, or they could not be read, or memory ran out
   abbrev pub Opens : Result (UserState T R) OpenFault → List (List ℕ) → Type 0
   Opens (Ok state) rows = Opened state rows

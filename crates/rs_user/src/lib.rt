@@ -12,12 +12,14 @@ mod laws;
 mod limits;
 mod opening;
 mod place;
+mod preparation;
 mod regrants;
 mod solo_desk;
 mod state;
 mod turning;
 
 pub use laws::turn_laws;
+pub use preparation::PreparedRequest;
 pub use rs_rules::OpenFault;
 pub use solo_desk::SoloDesk;
 pub use state::UserState;

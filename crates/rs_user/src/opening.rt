@@ -7,7 +7,7 @@ ghost use Rattle.rs_rules.specs.Histories.{History, with_entry};
 ghost use Rattle.rs_rules.specs.Snapshots.{snapshot};
 ghost use Rattle.rs_rules.specs.Lawful.{may_follow, writer_may};
 ghost use Rattle.rs_user.specs.Standing.{StandsFor};
-ghost use Rattle.rs_user.specs.Openings.{may_be_next, Opens, TakesRow, TakesRecord};
+ghost use Rattle.rs_user.specs.Openings.{may_be_next, Opens, StandsAnew, TakesRow, TakesRecord};
 
 use crate::granted::Granted;
 use crate::state::UserState;
@@ -25,6 +25,9 @@ impl<T: Tree> UserState<T> {
     /// first row that spells no record is `BadRow`, with the place of its fault; the first whose record no request adds
     /// to those before it is `Unlawful`; of two such rows the earlier is told. `KeeperFailed` comes only where the
     /// keeper's count of faults rose. The rows are as before.
+    ///
+    /// Also where the keeper tells no rows the state stands for a history of which nothing was given up, and whose
+    /// entries have `who` 0.
     pub fn open<K: Keeper>(
         alloc: Global,
         keeper: &mut K,
@@ -32,6 +35,7 @@ impl<T: Tree> UserState<T> {
     ) -> Result<UserState<T>, OpenFault>
         ensures opened { IfSome (K.rows keeper.old) (Opens T.stands result) }
         ensures stands { IfOk result (λ state. (h : History) × StandsFor T.stands state h) }
+        ensures begun { IfOk result (λ state. StandsAnew T.stands state (K.rows keeper.old)) }
         ensures count { IfOk result (λ state. state.rows ≡ K.row_count keeper.new) }
         ensures quota { IfOk result (λ state. state.quota ≡ quota) }
         ensures rows { K.rows keeper.new ≡ K.rows keeper.old }

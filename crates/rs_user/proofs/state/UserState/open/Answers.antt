@@ -1,5 +1,5 @@
 use Rattle.std.proofs.Common.{◌≡◌, ◌≤◌, slice_get, Some, IfSome, arith, sym, ◌∙◌, subst}
-use Rattle.rs_user.proofs.OpeningLemmas.{all_opened, more_opened, refused, and_read, both}
+use Rattle.rs_user.proofs.OpeningLemmas.{all_opened, all_anew, more_opened, refused, and_read, both}
 use Rattle.rs_user.proofs.state.UserState.open.Goals as goal
 
 pub returns-in-Err-clause-opened : goal.returns-in-Err-clause-opened
@@ -35,4 +35,12 @@ returns-clause-opened g c =
     let told = g.K.Keeper.rows c.args.keeper.now in
     let ended : g.K.Keeper.row_count c.args.keeper.now ≤ c.loop-index.index = omega (arith, c.loop-index-test.false, at.2) in
     all_opened g.T.Tree.stands c.loop-index.state at.0 told c.loop-index.index c.args.quota at.1
+    (both told (g.met.K.Keeper.counted c.args.keeper.now) (g.met.K.Keeper.counted c.args.keeper.now) (λ kept count again. omega (arith, count, ended)))
+
+pub returns-clause-begun : goal.returns-clause-begun
+returns-clause-begun g c =
+    let at = c.loop-index.invariant in
+    let told = g.K.Keeper.rows c.args.keeper.now in
+    let ended : g.K.Keeper.row_count c.args.keeper.now ≤ c.loop-index.index = omega (arith, c.loop-index-test.false, at.2) in
+    all_anew g.T.Tree.stands c.loop-index.state at.0 told c.loop-index.index c.args.quota at.1
     (both told (g.met.K.Keeper.counted c.args.keeper.now) (g.met.K.Keeper.counted c.args.keeper.now) (λ kept count again. omega (arith, count, ended)))

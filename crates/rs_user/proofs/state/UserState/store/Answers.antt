@@ -1,16 +1,15 @@
 use Rattle.std.proofs.Common.{◌≡◌, ◌+◌, Some, refl, sym, ap, ◌∙◌, subst}
-use Rattle.std.proofs.lemmas.Bool.{and_parts}
 use Rattle.rs_rules.specs.declared.call.Call.{Call}
 use Rattle.rs_rules.specs.declared.reply.Reply.{Reply}
 use Rattle.rs_rules.specs.declared.reply.Reply.TheVariants.{Stored, Removed}
 use Rattle.rs_rules.specs.declared.request.Request.TheVariants.{Store}
 use Rattle.rs_rules.specs.Histories.{len}
-use Rattle.rs_rules.specs.Documents.{docs}
 use Rattle.rs_rules.specs.Snapshots.{Snapshot, snapshot}
 use Rattle.rs_rules.specs.Answers.{answer, taken, put_record, remove_record, record_of_call}
 use Rattle.rs_user.specs.declared.decision.Decision.{Decision}
 use Rattle.rs_user.specs.Decisions.{DecisionAgrees}
-use Rattle.rs_user.proofs.MayLemmas.{put_within, document_there}
+use Rattle.rs_user.proofs.MayLemmas.{put_within}
+use Rattle.rs_user.proofs.PreparationLemmas.{kept_row}
 use Rattle.rs_user.proofs.TurnLemmas.{kept_turns, still_turns}
 use Rattle.rs_user.proofs.state.UserState.store.Goals as goal
 
@@ -26,6 +25,17 @@ decide-requires g c =
 told : (s : Snapshot) (c : Call) (answer : Reply) (decision other : Decision) → decision ≡ other → DecisionAgrees s c answer decision → DecisionAgrees s c answer other
 told s c answer decision other is decides = subst (DecisionAgrees s c answer) is decides
 
+pub unwrap-requires : goal.unwrap-requires
+unwrap-requires g c =
+    let stands = c.requires.stands in
+    let h = stands.0 in
+    let call = c.args.call.now in
+    let quota = c.args.self.now.quota in
+    let is = told (snapshot h) call _ _ _ c.in-Put.is (c.in_ok-reply.ensures.decided (snapshot h) stands.1.shows) in
+    let adds : taken h quota (Store call) ≡ Some (put_record call) = ap (record_of_call call) is in
+    let keeps = c.turn_laws.ensures.row h quota (Store call) (put_record call) stands.1.lawful c.requires.body adds in
+    (kept_row c.args.row (Store call) (put_record call) c.requires.made keeps).0
+
 pub keep_put-requires : goal.keep_put-requires
 keep_put-requires g c =
     let stands = c.requires.stands in
@@ -34,6 +44,7 @@ keep_put-requires g c =
     let quota = c.args.self.now.quota in
     let is = told (snapshot h) call _ _ _ c.in-Put.is (c.in_ok-reply.ensures.decided (snapshot h) stands.1.shows) in
     let adds : taken h quota (Store call) ≡ Some (put_record call) = ap (record_of_call call) is in
+    let keeps = c.turn_laws.ensures.row h quota (Store call) (put_record call) stands.1.lawful c.requires.body adds in
     record {
       may = (
         h,
@@ -41,32 +52,38 @@ keep_put-requires g c =
         c.taken_laws.ensures.may h quota (Store call) (put_record call) c.requires.body adds,
         c.taken_laws.ensures.room h quota (Store call) (put_record call) adds,
       );
+      row = (kept_row c.args.row (Store call) (put_record call) c.requires.made keeps).1 c.unwrap.result c.unwrap.ensures;
     }
 
-pub keep_remove-requires-clause-may : goal.keep_remove-requires-clause-may
-keep_remove-requires-clause-may g c =
-    let stands = c.requires.stands in
-    let h = stands.0 in
-    let call = c.args.call.now in
-    let quota = c.args.self.now.quota in
-    let is = told (snapshot h) call _ _ _ c.in-Remove.is (c.in_ok-reply.ensures.decided (snapshot h) stands.1.shows) in
-    let adds : taken h quota (Store call) ≡ Some (remove_record call) = ap (record_of_call call) is in (
-      h,
-      stands.1,
-      c.taken_laws.ensures.may h quota (Store call) (remove_record call) c.requires.body adds,
-      c.taken_laws.ensures.room h quota (Store call) (remove_record call) adds,
-    )
-
-pub keep_remove-requires-clause-document : goal.keep_remove-requires-clause-document
-keep_remove-requires-clause-document g c =
+pub unwrap-requires-in-Remove : goal.unwrap-requires-in-Remove
+unwrap-requires-in-Remove g c =
     let stands = c.requires.stands in
     let h = stands.0 in
     let call = c.args.call.now in
     let quota = c.args.self.now.quota in
     let is = told (snapshot h) call _ _ _ c.in-Remove.is (c.in_ok-reply.ensures.decided (snapshot h) stands.1.shows) in
     let adds : taken h quota (Store call) ≡ Some (remove_record call) = ap (record_of_call call) is in
-    let may = c.taken_laws.ensures.may h quota (Store call) (remove_record call) c.requires.body adds in
-    document_there call.path (docs h) (c.lawful_laws.ensures.documents h stands.1.lawful) (and_parts _ _ may).0
+    let keeps = c.turn_laws.ensures.row h quota (Store call) (remove_record call) stands.1.lawful c.requires.body adds in
+    (kept_row c.args.row (Store call) (remove_record call) c.requires.made keeps).0
+
+pub keep_remove-requires : goal.keep_remove-requires
+keep_remove-requires g c =
+    let stands = c.requires.stands in
+    let h = stands.0 in
+    let call = c.args.call.now in
+    let quota = c.args.self.now.quota in
+    let is = told (snapshot h) call _ _ _ c.in-Remove.is (c.in_ok-reply.ensures.decided (snapshot h) stands.1.shows) in
+    let adds : taken h quota (Store call) ≡ Some (remove_record call) = ap (record_of_call call) is in
+    let keeps = c.turn_laws.ensures.row h quota (Store call) (remove_record call) stands.1.lawful c.requires.body adds in
+    record {
+      may = (
+        h,
+        stands.1,
+        c.taken_laws.ensures.may h quota (Store call) (remove_record call) c.requires.body adds,
+        c.taken_laws.ensures.room h quota (Store call) (remove_record call) adds,
+      );
+      row = (kept_row c.args.row (Store call) (remove_record call) c.requires.made keeps).1 c.unwrap-in-Remove.result c.unwrap-in-Remove.ensures;
+    }
 
 pub returns-in-Answer-clause-turned : goal.returns-in-Answer-clause-turned
 returns-in-Answer-clause-turned g c h who s =

@@ -1,5 +1,5 @@
 use Rattle.rs_user.proofs.TurnLemmas.{stands_after}
-use Rattle.rs_user.proofs.state.UserState.turn.Goals as goal
+use Rattle.rs_user.proofs.state.UserState.turn_prepared.Goals as goal
 
 pub returns-in-Store-clause-stands : goal.returns-in-Store-clause-stands
 returns-in-Store-clause-stands g c =
