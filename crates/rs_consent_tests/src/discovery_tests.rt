@@ -10,6 +10,8 @@ const FOUND: &str = r#"
 < 200 OK | Content-Type: application/jrd+json ¶ Content-Length: 312 | $
 > GET /.well-known/webfinger?x&resource=acct:alice@LOCALHOST&y=z
 < 200 OK | Content-Type: application/jrd+json ¶ Content-Length: 312 | $
+> GET /.well-known/webfinger?resource=acct:alice@localhost | If-Match: "1" ¶ If-None-Match: *
+< 200 OK | Content-Type: application/jrd+json ¶ Content-Length: 312 | $
 > GET http://localhost/.well-known/webfinger?resource=acct:alice@LocalHost
 < 200 OK | Content-Type: application/jrd+json ¶ Content-Length: 312 | $
 > HEAD /.well-known/webfinger?resource=acct:alice@localhost
@@ -69,6 +71,10 @@ fn another_resource_is_not_found(rt: HostRuntime) -> Result<(), Fail> {
 }
 
 const BAD_RESOURCES: &str = r#"
+> GET /.well-known/webfinger?resource=acct:alice@localhost | If-None-Match: 1
+< 400 Bad Request | Content-Length: 0
+> GET /.well-known/webfinger?resource=acct:bob@localhost | If-Match: "
+< 400 Bad Request | Content-Length: 0
 > GET /.well-known/webfinger
 < 400 Bad Request | Content-Length: 0
 > GET /.well-known/webfinger?

@@ -71,6 +71,10 @@ fn a_user_without_a_password_grants_nothing(rt: HostRuntime) -> Result<(), Fail>
 const NO_PAGES: &str = r#"
 > GET /oauth/alice
 - 400 Bad Request | Content-Length: 0
+> GET /oauth/alice?~ | If-None-Match: x
+- 400 Bad Request | Content-Length: 0
+> POST /oauth/alice | If-Match: *, "1" | ~&choice=allow&password=open+sesame
+- 400 Bad Request | Content-Length: 0
 > HEAD /oauth/alice
 - 400 Bad Request | Content-Length: 0
 > GET /oauth/alice | | ~

@@ -43,9 +43,9 @@ use Rattle.rs_exchange.specs.declared.verb.Verb.{Verb}
 use Rattle.rs_exchange.specs.declared.verb.Verb.TheVariants.{Data, Options, Post, Other}
 use Rattle.rs_exchange.specs.Accounts.{is_of, account_of, names_of}
 use Rattle.rs_exchange.specs.Asking.{AsksOf, AsksShort, IsStore, IsAllowed}
-use Rattle.rs_exchange.specs.Conditions.{cond_of}
+use Rattle.rs_exchange.specs.Conditions.{cond_of, are_conditions}
 use Rattle.rs_exchange.specs.ContentTypes.{kind_of, is_part}
-use Rattle.rs_exchange.specs.Discoveries.{discovered, asked_discovery}
+use Rattle.rs_exchange.specs.Discoveries.{discovered, asked_account, asked_discovery}
 use Rattle.rs_exchange.specs.Fields.{values_of}
 use Rattle.rs_exchange.specs.Grants.{fault_answer, sent_back, may_enter, asked_page, asked_allowed, asked_by_choice, asked_consent, asked_by_method}
 use Rattle.rs_exchange.specs.Passes.{pass_of}
@@ -146,14 +146,21 @@ module _ (P : Asked → Type 0) (now : (answer : Answer) → P (Now answer)) whe
   by_found (Err finger.NoLink) = now (Refused NotFound)
   by_found (Err finger.NoMemory) = now (Refused NotFound)
 
-  by_discovery : (config : Config) (verb : Verb) (query : List ℕ) → P (asked_discovery config verb query)
-  by_discovery config (Data Get) query = by_found (finger_answer config.base config.host (names_of config.accounts) query)
-  by_discovery config (Data Head) query = by_found (finger_answer config.base config.host (names_of config.accounts) query)
-  by_discovery config (Data Put) query = now (Refused (NotAllowed methods.Discovery))
-  by_discovery config (Data Delete) query = now (Refused (NotAllowed methods.Discovery))
-  by_discovery config Options query = now Preflight
-  by_discovery config Post query = now (Refused (NotAllowed methods.Discovery))
-  by_discovery config Other query = now (Refused (NotAllowed methods.Discovery))
+  -- nor where a condition is none
+  by_conditions : (b : Bool) (asked : Asked) → P asked → P (cond b asked (refused BadCondition))
+  by_conditions true asked holds = holds
+  by_conditions false asked holds = now (Refused BadCondition)
+
+  by_discovery : (config : Config) (fields : List Field) (verb : Verb) (query : List ℕ) → P (asked_discovery config fields verb query)
+  by_discovery config fields (Data Get) query =
+      by_conditions (are_conditions fields) (asked_account config query) (by_found (finger_answer config.base config.host (names_of config.accounts) query))
+  by_discovery config fields (Data Head) query =
+      by_conditions (are_conditions fields) (asked_account config query) (by_found (finger_answer config.base config.host (names_of config.accounts) query))
+  by_discovery config fields (Data Put) query = now (Refused (NotAllowed methods.Discovery))
+  by_discovery config fields (Data Delete) query = now (Refused (NotAllowed methods.Discovery))
+  by_discovery config fields Options query = now Preflight
+  by_discovery config fields Post query = now (Refused (NotAllowed methods.Discovery))
+  by_discovery config fields Other query = now (Refused (NotAllowed methods.Discovery))
 
 -- where access is granted, a consent or nothing is asked
 module _ (P : Asked → Type 0) (now : (answer : Answer) → P (Now answer)) (user : ℕ) (consent : (ask : Ask) → P (Consent user ask)) where
@@ -174,28 +181,31 @@ module _ (P : Asked → Type 0) (now : (answer : Answer) → P (Now answer)) (us
   by_form account (Ok consent) = by_choice account consent.0 consent.1
   by_form account (Err fault) = now (fault_answer fault)
 
-  by_method : (account : Account) (verb : Verb) (query body : List ℕ) → P (asked_by_method account user verb query body)
-  by_method account (Data Get) query body = by_page account.name (ask_reading query)
-  by_method account (Data Head) query body = by_page account.name (ask_reading query)
-  by_method account (Data Put) query body = now (Refused (NotAllowed methods.Grant))
-  by_method account (Data Delete) query body = now (Refused (NotAllowed methods.Grant))
-  by_method account Options query body = now (Refused (NotAllowed methods.Grant))
-  by_method account Post query body = by_form account (consent_reading body)
-  by_method account Other query body = now (Refused (NotAllowed methods.Grant))
+  by_method : (account : Account) (fields : List Field) (verb : Verb) (query body : List ℕ) → P (asked_by_method account user fields verb query body)
+  by_method account fields (Data Get) query body =
+      by_conditions P now (are_conditions fields) (asked_page account.name (ask_reading query)) (by_page account.name (ask_reading query))
+  by_method account fields (Data Head) query body =
+      by_conditions P now (are_conditions fields) (asked_page account.name (ask_reading query)) (by_page account.name (ask_reading query))
+  by_method account fields (Data Put) query body = now (Refused (NotAllowed methods.Grant))
+  by_method account fields (Data Delete) query body = now (Refused (NotAllowed methods.Grant))
+  by_method account fields Options query body = now (Refused (NotAllowed methods.Grant))
+  by_method account fields Post query body =
+      by_conditions P now (are_conditions fields) (asked_consent account user (consent_reading body)) (by_form account (consent_reading body))
+  by_method account fields Other query body = now (Refused (NotAllowed methods.Grant))
 
-  by_account : (verb : Verb) (query body : List ℕ) (o : Option Account)
-      → P (option_map_or (λ (account : Account). asked_by_method account user verb query body) o (refused NotFound))
-  by_account verb query body None = now (Refused NotFound)
-  by_account verb query body (Some account) = by_method account verb query body
+  by_account : (fields : List Field) (verb : Verb) (query body : List ℕ) (o : Option Account)
+      → P (option_map_or (λ (account : Account). asked_by_method account user fields verb query body) o (refused NotFound))
+  by_account fields verb query body None = now (Refused NotFound)
+  by_account fields verb query body (Some account) = by_method account fields verb query body
 
 there_of : (n : ℕ) (config : Config) (fields : List Field) (body : List ℕ) (verb : Verb) (target : Target) → IsLowTarget n target
     → AsksOf (λ user. user < n) (asked_there config fields body verb target)
 there_of n config fields body verb Server low = by_server (AsksOf (λ user. user < n)) (λ answer. tt) verb
 there_of n config fields body verb (Storage user text) low =
     by_verb (AsksOf (λ user. user < n)) fields body (λ answer. tt) user (λ method path p x y kind. low) (result_ok (target_reading text)) verb
-there_of n config fields body verb (Discovery query) low = by_discovery (AsksOf (λ user. user < n)) (λ answer. tt) config verb query
+there_of n config fields body verb (Discovery query) low = by_discovery (AsksOf (λ user. user < n)) (λ answer. tt) config fields verb query
 there_of n config fields body verb (Grant user query) low =
-    by_account (AsksOf (λ user. user < n)) (λ answer. tt) user (λ ask. low) verb query body (slice_get config.accounts user)
+    by_account (AsksOf (λ user. user < n)) (λ answer. tt) user (λ ask. low) fields verb query body (slice_get config.accounts user)
 there_of n config fields body verb Nothing low = tt
 
 -- the user that a message asks has an account
@@ -215,9 +225,9 @@ there_short : (config : Config) (fields : List Field) (body : List ℕ) (verb : 
 there_short config fields body verb Server short = by_server AsksShort (λ answer. tt) verb
 there_short config fields body verb (Storage user text) short =
     by_verb AsksShort fields body (λ answer. tt) user (λ method path p x y kind. is_short_call method body short) (result_ok (target_reading text)) verb
-there_short config fields body verb (Discovery query) short = by_discovery AsksShort (λ answer. tt) config verb query
+there_short config fields body verb (Discovery query) short = by_discovery AsksShort (λ answer. tt) config fields verb query
 there_short config fields body verb (Grant user query) short =
-    by_account AsksShort (λ answer. tt) user (λ ask. tt) verb query body (slice_get config.accounts user)
+    by_account AsksShort (λ answer. tt) user (λ ask. tt) fields verb query body (slice_get config.accounts user)
 there_short config fields body verb Nothing short = tt
 
 -- the body that it brings is as short as the message's
@@ -237,9 +247,9 @@ there_stores : (config : Config) (fields : List Field) (body : List ℕ) (verb :
 there_stores config fields body verb Server = by_server AsksStores (λ answer. tt) verb
 there_stores config fields body verb (Storage user text) =
     by_verb AsksStores fields body (λ answer. tt) user (λ method path p x y kind. (_, refl)) (result_ok (target_reading text)) verb
-there_stores config fields body verb (Discovery query) = by_discovery AsksStores (λ answer. tt) config verb query
+there_stores config fields body verb (Discovery query) = by_discovery AsksStores (λ answer. tt) config fields verb query
 there_stores config fields body verb (Grant user query) =
-    by_account AsksStores (λ answer. tt) user (λ ask. tt) verb query body (slice_get config.accounts user)
+    by_account AsksStores (λ answer. tt) user (λ ask. tt) fields verb query body (slice_get config.accounts user)
 there_stores config fields body verb Nothing = tt
 
 pub asked_store : (config : Config) (m : RequestMessage) (user : ℕ) (r : Request) → asked_of config m ≡ Desk user r → IsStore r
@@ -279,35 +289,36 @@ module _ (config : Config) (user : ℕ) (query body : List ℕ) (account : Accou
   rightly_form (Ok consent) read = rightly_choice consent.0 consent.1 read
   rightly_form (Err fault) read = tt
 
-  rightly_method : (verb : Verb) → AsksRightly config verb (Grant user query) body (asked_by_method account user verb query body)
-  rightly_method (Data Get) = rightly_page (Data Get) account.name (ask_reading query)
-    where
-      rightly_page : (verb : Verb) (name : List ℕ) (r : Result Ask GrantFault) → AsksRightly config verb (Grant user query) body (asked_page name r)
-      rightly_page verb name (Ok ask) = tt
-      rightly_page verb name (Err fault) = tt
-  rightly_method (Data Head) = rightly_page (Data Head) account.name (ask_reading query)
-    where
-      rightly_page : (verb : Verb) (name : List ℕ) (r : Result Ask GrantFault) → AsksRightly config verb (Grant user query) body (asked_page name r)
-      rightly_page verb name (Ok ask) = tt
-      rightly_page verb name (Err fault) = tt
-  rightly_method (Data Put) = tt
-  rightly_method (Data Delete) = tt
-  rightly_method Options = tt
-  rightly_method Post = rightly_form (consent_reading body) refl
-  rightly_method Other = tt
+  rightly_page : (verb : Verb) (name : List ℕ) (r : Result Ask GrantFault) → AsksRightly config verb (Grant user query) body (asked_page name r)
+  rightly_page verb name (Ok ask) = tt
+  rightly_page verb name (Err fault) = tt
+
+  rightly_conditions : (verb : Verb) (b : Bool) (asked : Asked) → AsksRightly config verb (Grant user query) body asked
+      → AsksRightly config verb (Grant user query) body (cond b asked (refused BadCondition))
+  rightly_conditions verb true asked holds = holds
+  rightly_conditions verb false asked holds = tt
+
+  rightly_method : (fields : List Field) (verb : Verb) → AsksRightly config verb (Grant user query) body (asked_by_method account user fields verb query body)
+  rightly_method fields (Data Get) = rightly_conditions (Data Get) (are_conditions fields) (asked_page account.name (ask_reading query)) (rightly_page (Data Get) account.name (ask_reading query))
+  rightly_method fields (Data Head) = rightly_conditions (Data Head) (are_conditions fields) (asked_page account.name (ask_reading query)) (rightly_page (Data Head) account.name (ask_reading query))
+  rightly_method fields (Data Put) = tt
+  rightly_method fields (Data Delete) = tt
+  rightly_method fields Options = tt
+  rightly_method fields Post = rightly_conditions Post (are_conditions fields) (asked_consent account user (consent_reading body)) (rightly_form (consent_reading body) refl)
+  rightly_method fields Other = tt
 
 rightly_there : (config : Config) (fields : List Field) (body : List ℕ) (verb : Verb) (target : Target)
     → AsksRightly config verb target body (asked_there config fields body verb target)
 rightly_there config fields body verb Server = by_server (AsksRightly config verb Server body) (λ answer. tt) verb
 rightly_there config fields body verb (Storage user text) =
     by_verb (AsksRightly config verb (Storage user text) body) fields body (λ answer. tt) user (λ method path p x y kind. tt) (result_ok (target_reading text)) verb
-rightly_there config fields body verb (Discovery query) = by_discovery (AsksRightly config verb (Discovery query) body) (λ answer. tt) config verb query
+rightly_there config fields body verb (Discovery query) = by_discovery (AsksRightly config verb (Discovery query) body) (λ answer. tt) config fields verb query
 rightly_there config fields body verb (Grant user query) = by_there (slice_get config.accounts user) refl
   where
     by_there : (o : Option Account) → slice_get config.accounts user ≡ o
-        → AsksRightly config verb (Grant user query) body (option_map_or (λ (account : Account). asked_by_method account user verb query body) o (refused NotFound))
+        → AsksRightly config verb (Grant user query) body (option_map_or (λ (account : Account). asked_by_method account user fields verb query body) o (refused NotFound))
     by_there None there = tt
-    by_there (Some account) there = rightly_method config user query body account there verb
+    by_there (Some account) there = rightly_method config user query body account there fields verb
 rightly_there config fields body verb Nothing = tt
 
 pub asked_allowed_only : (config : Config) (m : RequestMessage) (user : ℕ) (ask : Ask) → asked_of config m ≡ Consent user ask

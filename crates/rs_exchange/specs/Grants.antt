@@ -14,6 +14,7 @@ use Rattle.rs_grant.specs.Consents.{consent_reading}
 use Rattle.rs_grant.specs.Pages.{page_text}
 use Rattle.rs_grant.specs.Passwords.{password_fits}
 use Rattle.rs_grant.specs.Redirects.{redirect_text}
+use Rattle.rs_request.specs.declared.field.Field.{Field}
 use Rattle.rs_scope.specs.declared.method.Method.TheVariants.{Get, Head, Put, Delete}
 use Rattle.rs_exchange.specs.declared.account.Account.{Account}
 use Rattle.rs_exchange.specs.declared.answer.Answer.{Answer}
@@ -26,7 +27,7 @@ use Rattle.rs_exchange.specs.declared.refusal.Methods.TheVariants as methods
 use Rattle.rs_exchange.specs.declared.refusal.Refusal.TheVariants.{NotFound, NotAllowed, BadAddress}
 use Rattle.rs_exchange.specs.declared.verb.Verb.{Verb}
 use Rattle.rs_exchange.specs.declared.verb.Verb.TheVariants.{Data, Options, Post, Other}
-use Rattle.rs_exchange.specs.Refusals.{refused}
+use Rattle.rs_exchange.specs.Refusals.{refused, with_conditions}
 
 -- ---- what the app is told
 
@@ -90,16 +91,16 @@ asked_consent account user (Ok consent) = asked_by_choice account user consent.0
 asked_consent account user (Err fault) = Now (fault_answer fault)
 
 -- by the method, where the user's account is this
-abbrev pub asked_by_method : Account → ℕ → Verb → List ℕ → List ℕ → Asked
-asked_by_method account user (Data Get) query body = asked_page account.name (ask_reading query)
-asked_by_method account user (Data Head) query body = asked_page account.name (ask_reading query)
-asked_by_method account user (Data Put) query body = refused (NotAllowed methods.Grant)
-asked_by_method account user (Data Delete) query body = refused (NotAllowed methods.Grant)
-asked_by_method account user Options query body = refused (NotAllowed methods.Grant)
-asked_by_method account user Post query body = asked_consent account user (consent_reading body)
-asked_by_method account user Other query body = refused (NotAllowed methods.Grant)
+abbrev pub asked_by_method : Account → ℕ → List Field → Verb → List ℕ → List ℕ → Asked
+asked_by_method account user fields (Data Get) query body = with_conditions fields (asked_page account.name (ask_reading query))
+asked_by_method account user fields (Data Head) query body = with_conditions fields (asked_page account.name (ask_reading query))
+asked_by_method account user fields (Data Put) query body = refused (NotAllowed methods.Grant)
+asked_by_method account user fields (Data Delete) query body = refused (NotAllowed methods.Grant)
+asked_by_method account user fields Options query body = refused (NotAllowed methods.Grant)
+asked_by_method account user fields Post query body = with_conditions fields (asked_consent account user (consent_reading body))
+asked_by_method account user fields Other query body = refused (NotAllowed methods.Grant)
 
 -- where the user with this number grants access
-abbrev pub asked_grant : List Account → ℕ → Verb → List ℕ → List ℕ → Asked
-asked_grant accounts user verb query body =
-    option_map_or (λ (account : Account). asked_by_method account user verb query body) (slice_get accounts user) (refused NotFound)
+abbrev pub asked_grant : List Account → ℕ → List Field → Verb → List ℕ → List ℕ → Asked
+asked_grant accounts user fields verb query body =
+    option_map_or (λ (account : Account). asked_by_method account user fields verb query body) (slice_get accounts user) (refused NotFound)

@@ -77,8 +77,8 @@ asked_server Other = refused NotFound
 abbrev pub asked_there : Config → List Field → List ℕ → Verb → Target → Asked
 asked_there config fields body verb Server = asked_server verb
 asked_there config fields body verb (Storage user text) = asked_storage fields body user (result_ok (target_reading text)) verb
-asked_there config fields body verb (Discovery query) = asked_discovery config verb query
-asked_there config fields body verb (Grant user query) = asked_grant config.accounts user verb query body
+asked_there config fields body verb (Discovery query) = asked_discovery config fields verb query
+asked_there config fields body verb (Grant user query) = asked_grant config.accounts user fields verb query body
 asked_there config fields body verb Nothing = refused NotFound
 
 -- what a request line with these fields and this body asks

@@ -46,7 +46,8 @@ pub enum Asked {
 ///
 /// The first that applies: a target that isn't there, a method that isn't the target's, a path that is none, OPTIONS, a
 /// condition that is none, a content type that is none, a part in place of the whole; else the request. Of discovery its
-/// answer is said (RFC 7033, section 4.2), of a grant the page, the redirect that refuses, or the consent.
+/// answer is said (RFC 7033, section 4.2), of a grant the page, the redirect that refuses, or the consent; there too a condition
+/// that is none comes first.
 pub fn read_request(
     alloc: Global,
     config: &Config,
@@ -69,9 +70,17 @@ pub fn read_request(
                 body,
             )
         }
-        Target::Discovery { query } => read_discovery(alloc, config, line.verb, query),
+        Target::Discovery { query } => read_discovery(alloc, config, fields, line.verb, query),
         Target::Grant { user, query } => {
-            read_grant(alloc, &config.accounts, user, line.verb, query, body)
+            read_grant(
+                alloc,
+                &config.accounts,
+                user,
+                fields,
+                line.verb,
+                query,
+                body,
+            )
         }
         Target::Nothing => Ok(refused(Refusal::NotFound)),
     }

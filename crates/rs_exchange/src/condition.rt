@@ -1,7 +1,7 @@
 //! The conditions that the fields of a request are (RFC 9110, section 13.1).
 
 ghost use Rattle.std.specs.Prelude.{◌≡◌, IfOk};
-ghost use Rattle.rs_exchange.specs.Conditions.{cond_of, cond_of_text};
+ghost use Rattle.rs_exchange.specs.Conditions.{cond_of, cond_of_text, are_conditions};
 ghost use Rattle.rs_exchange.specs.Fields.{values_of};
 
 use crate::fields::joined;
@@ -38,4 +38,13 @@ fn cond_of_text(alloc: Global, text: &[u8]) -> Result<Option<Cond>, NoMemory>
         Err(CondFault::Bad { .. }) => Ok(None),
         Err(CondFault::NoMemory) => Err(NoMemory),
     }
+}
+
+/// Whether the conditions of a request with these fields are conditions.
+pub(crate) fn are_conditions(alloc: Global, fields: &[Field]) -> Result<bool, NoMemory>
+    ensures are { IfOk result (λ are. are ≡ are_conditions fields.now) }
+{
+    let matched = read_cond(alloc, fields, b"if-match")?;
+    let unmatched = read_cond(alloc, fields, b"if-none-match")?;
+    Ok(matched.is_some() && unmatched.is_some())
 }

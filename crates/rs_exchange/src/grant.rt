@@ -8,13 +8,14 @@ ghost use Rattle.rs_grant.specs.Redirects.{redirect_text};
 ghost use Rattle.rs_exchange.specs.declared.answer.Answer.TheVariants.{Made, Redirect};
 ghost use Rattle.rs_exchange.specs.declared.asked.Asked.TheVariants.{Now};
 ghost use Rattle.rs_exchange.specs.Grants.{asked_page, asked_consent, asked_by_choice, asked_by_method, asked_grant, fits_account, may_enter, sent_back, Refuses};
-ghost use Rattle.rs_exchange.specs.Refusals.{refused};
+ghost use Rattle.rs_exchange.specs.Refusals.{refused, with_conditions};
 ghost use Rattle.rs_exchange.specs.declared.refusal.Methods.TheVariants.{Grant};
 ghost use Rattle.rs_exchange.specs.declared.refusal.Refusal.TheVariants.{NotAllowed};
 
 use crate::account::{Account, Accounts};
 use crate::answer::{Answer, Sheet};
 use crate::asked::{Asked, refused};
+use crate::condition::are_conditions;
 use crate::refusal::{Methods, Refusal};
 use crate::verb::Verb;
 use rs_grant::{
@@ -23,6 +24,7 @@ use rs_grant::{
 };
 use rs_path::{Bytes, NoMemory};
 use rs_scope::Method;
+use rs_wire::Field;
 use std::alloc::Global;
 
 /// What is asked with this method, this query and this body where the user with this number grants access: the page, a
@@ -31,14 +33,15 @@ pub(crate) fn read_grant(
     alloc: Global,
     accounts: &Accounts,
     user: u32,
+    fields: &[Field],
     verb: Verb,
     query: &[u8],
     body: Bytes,
 ) -> Result<Asked, NoMemory>
-    ensures asked { IfOk result (λ asked. asked ≡ asked_grant accounts.now user verb query.now body) }
+    ensures asked { IfOk result (λ asked. asked ≡ asked_grant accounts.now user fields.now verb query.now body) }
 {
     match accounts.at(user) {
-        Some(account) => read_account_grant(alloc, account, user, verb, query, body),
+        Some(account) => read_account_grant(alloc, account, user, fields, verb, query, body),
         None => Ok(refused(Refusal::NotFound)),
     }
 }
@@ -47,19 +50,20 @@ fn read_account_grant(
     alloc: Global,
     account: &Account,
     user: u32,
+    fields: &[Field],
     verb: Verb,
     query: &[u8],
     body: Bytes,
 ) -> Result<Asked, NoMemory>
-    ensures asked { IfOk result (λ asked. asked ≡ asked_by_method account.now user verb query.now body) }
+    ensures asked { IfOk result (λ asked. asked ≡ asked_by_method account.now user fields.now verb query.now body) }
 {
     match verb {
-        Verb::Data(Method::Get) => read_page(alloc, account, query),
-        Verb::Data(Method::Head) => read_page(alloc, account, query),
+        Verb::Data(Method::Get) => page_unless_bad(alloc, account, fields, query),
+        Verb::Data(Method::Head) => page_unless_bad(alloc, account, fields, query),
         Verb::Data(Method::Put) => Ok(not_allowed()),
         Verb::Data(Method::Delete) => Ok(not_allowed()),
         Verb::Options => Ok(not_allowed()),
-        Verb::Post => read_form(alloc, account, user, body.as_slice()),
+        Verb::Post => form_unless_bad(alloc, account, user, fields, body.as_slice()),
         Verb::Other => Ok(not_allowed()),
     }
 }
@@ -70,6 +74,39 @@ fn not_allowed() -> Asked
     refused(Refusal::NotAllowed {
         methods: Methods::Grant,
     })
+}
+
+// The page, where the conditions are conditions.
+fn page_unless_bad(
+    alloc: Global,
+    account: &Account,
+    fields: &[Field],
+    query: &[u8],
+) -> Result<Asked, NoMemory>
+    ensures asked { IfOk result (λ asked. asked ≡ with_conditions fields.now (asked_page account.now.name (ask_reading query.now))) }
+{
+    if are_conditions(alloc, fields)? {
+        read_page(alloc, account, query)
+    } else {
+        Ok(refused(Refusal::BadCondition))
+    }
+}
+
+// What a form asks for, where the conditions are conditions.
+fn form_unless_bad(
+    alloc: Global,
+    account: &Account,
+    user: u32,
+    fields: &[Field],
+    body: &[u8],
+) -> Result<Asked, NoMemory>
+    ensures asked { IfOk result (λ asked. asked ≡ with_conditions fields.now (asked_consent account.now user (consent_reading body.now))) }
+{
+    if are_conditions(alloc, fields)? {
+        read_form(alloc, account, user, body)
+    } else {
+        Ok(refused(Refusal::BadCondition))
+    }
 }
 
 // The page that asks the user for what the query asks.
