@@ -26,7 +26,7 @@ fn a_token_is_granted(rt: HostRuntime) -> Result<(), Fail> {
 
 /// Nothing of a query or of a field counts, but of the form alone.
 const ALLOWED_BY_A_FORM: &str = r#"
-> POST http://localhost/oauth/alice?choice=deny&state=s2 | Content-Type: application/x-www-form-urlencoded ¶ If-Match: 2 ¶ Authorization: Bearer zz ¶ Origin: https://app.example | password=open%20sesame&x=y&choice=allow&~
+> POST http://localhost/oauth/alice?choice=deny&state=s2 | Content-Type: application/x-www-form-urlencoded ¶ If-Match: "2" ¶ Authorization: Bearer zz ¶ Origin: https://app.example | password=open%20sesame&x=y&choice=allow&~
 - 302 Found | Location: https://app.example/cb#access_token=000102030405060708090a0b0c0d0e0f&token_type=bearer&state=s1 ¶ Content-Length: 0
 "#;
 
