@@ -9,7 +9,8 @@ are read by SQLite, and the documents by the program, with nothing failing. What
 - a reply is the right one for the state that the replies before it made, or 503 where memory was wanted, or 500 where the file failed;
 - what was acknowledged is in the rows, and nothing is there that wasn't sent; where memory was wanted, nothing but what was
   acknowledged; a run that was refused left the rows as they were;
-- the rows are numbered from 1, the file is whole, and the program reads from it what the rows say;
+- the rows are numbered from 1, the file is whole, and the program reads from it what the rows say; a new file whose making failed
+  is taken for a new one;
 - the status is 0, 3, 5 or 17, and no signal ends the process.
 
 It wants a C compiler, `cc`, and python's sqlite3, and builds a library that stands before the C library's calls (LD_PRELOAD). It
@@ -406,7 +407,13 @@ class Trials:
     def judge(self, case, mode, folder, done):
         if done.returncode not in (0, 3, 5, 17) and (mode, done.returncode) != ("stop", STOPPED):
             raise ValueError(f"status {done.returncode}, {done.stderr[:200]}")
-        after = read_rows(folder)
+        try:
+            after = read_rows(folder)
+        except sqlite3.DatabaseError:
+            # A new file whose first page is half made is no database to SQLite. The next run has to take it for a new one.
+            if case.before:
+                raise
+            after = []
         if after[: len(case.before)] != case.before:
             raise ValueError("rows that were there are gone")
         rows = after[len(case.before) :]
