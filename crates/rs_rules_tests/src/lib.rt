@@ -1,4 +1,4 @@
-//! Tests of the rules, of the plain tree and of a user's state, through their public calls, and examples of the rules,
+//! Tests of the rules, of the trees and of a user's state, through their public calls, and examples of the rules,
 //! computed from the definitions. Nothing stands on this crate.
 #![tactic(auto)]
 

@@ -1,4 +1,4 @@
-//! Trees after a few writes, against values worked out by hand, and that each call answers with ample memory.
+//! Both trees after a few writes, against values worked out by hand, and that each call answers with ample memory.
 //!
 //! A row is `edits | path | what the tree tells`. Edits are numbered from 1: `PATH=BODY` puts a document, `-PATH` removes it.
 
@@ -6,6 +6,7 @@ ghost use Rattle.std.specs.Prelude.{◌≡◌, false, IfOk, IsTrue};
 ghost use Rattle.rs_record.specs.Records.{is_writable};
 
 use crate::rows::{body_of, plain_text};
+use rs_chain::ChainTree;
 use rs_face::MemKeeper;
 use rs_path::{Bytes, Entry, NoMemory, Path, Tag};
 use rs_plain::PlainTree;
@@ -13,6 +14,7 @@ use rs_record::{Record, encode};
 use rs_rules::Tree;
 use rs_user::UserState;
 use std::alloc::Global;
+use std::process::Abort;
 use std::test::Fail;
 
 // ---- rows of a table
@@ -60,7 +62,7 @@ fn rows_of(alloc: Global, edits: &str) -> Result<Vec<Bytes>, Fail> {
 }
 
 // The state whose tree has taken these edits.
-fn grown(alloc: Global, edits: &str) -> Result<UserState<PlainTree>, Fail> {
+fn grown<T: Tree>(alloc: Global, edits: &str) -> Result<UserState<T>, Fail> {
     let mut keeper = MemKeeper::new(rows_of(alloc, edits)?, Vec::new(alloc));
     match UserState::open(alloc, &mut keeper, 0) {
         Ok(state) => Ok(state),
@@ -69,10 +71,10 @@ fn grown(alloc: Global, edits: &str) -> Result<UserState<PlainTree>, Fail> {
 }
 
 // The state, the path and what the tree tells of a row.
-fn case_of(
+fn case_of<T: Tree>(
     alloc: Global,
     row: &'static str,
-) -> Result<(UserState<PlainTree>, Path, &'static [u8]), Fail> {
+) -> Result<(UserState<T>, Path, &'static [u8]), Fail> {
     let mut cells = row.split('|');
     let state = grown(alloc, cells.next().ok_or("no edits")?.trim())?;
     let path = cells.next().ok_or("no path")?.trim();
@@ -120,24 +122,30 @@ const VERSIONS: &str = r#"
 /a=v1 /ab/x=hello /a.b=v1        | /ab/     | 2
 "#;
 
-#[test]
-fn each_write_gives_its_number_up_to_the_root(rt: HostRuntime) -> Result<(), Fail> {
-    let alloc = rt.alloc();
+// Each row tells the version of its path. The number of rows.
+fn check_versions<T: Tree, R: Abort>(rt: &R, alloc: Global) -> Result<usize, Fail> {
     let mut rows: usize = 0;
     for row in VERSIONS.trim().split('\n') {
         rows = rows.saturating_add(1);
-        let (state, path, told) = case_of(alloc, row)?;
+        let (state, path, told) = case_of::<T>(alloc, row)?;
         let version = Tag::of(alloc, state.tree().version(&path))?;
         assert_eq!(rt; version.as_slice(), told, "at {row}");
     }
-    assert_eq!(rt; rows, 31);
+    Ok(rows)
+}
+
+#[test]
+fn each_write_gives_its_number_up_to_the_root(rt: HostRuntime) -> Result<(), Fail> {
+    let alloc = rt.alloc();
+    assert_eq!(rt; check_versions::<PlainTree, _>(&rt, alloc)?, 31);
+    assert_eq!(rt; check_versions::<ChainTree, _>(&rt, alloc)?, 31);
     Ok(())
 }
 
 // ---- listings
 
 // The items of a folder, each as its name, with `/` behind a folder's, its tag, its content type and `;`.
-fn items_of(alloc: Global, tree: &PlainTree, folder: &Path) -> Result<Vec<u8>, Fail> {
+fn items_of<T: Tree>(alloc: Global, tree: &T, folder: &Path) -> Result<Vec<u8>, Fail> {
     let mut text = Vec::new(alloc);
     if !folder.is_folder() {
         return Err("no folder")?;
@@ -179,24 +187,30 @@ const LISTINGS: &str = r#"
 /notes/a=v1 /notes.txt=v1        | /     | notes.txt 2 text/plain;notes/ 1;
 "#;
 
-#[test]
-fn a_folder_lists_its_documents_and_folders(rt: HostRuntime) -> Result<(), Fail> {
-    let alloc = rt.alloc();
+// Each row tells the items of its folder. The number of rows.
+fn check_listings<T: Tree, R: Abort>(rt: &R, alloc: Global) -> Result<usize, Fail> {
     let mut rows: usize = 0;
     for row in LISTINGS.trim().split('\n') {
         rows = rows.saturating_add(1);
-        let (state, folder, told) = case_of(alloc, row)?;
+        let (state, folder, told) = case_of::<T>(alloc, row)?;
         let items = items_of(alloc, state.tree(), &folder)?;
         assert_eq!(rt; items.as_slice(), told, "at {row}");
     }
-    assert_eq!(rt; rows, 12);
+    Ok(rows)
+}
+
+#[test]
+fn a_folder_lists_its_documents_and_folders(rt: HostRuntime) -> Result<(), Fail> {
+    let alloc = rt.alloc();
+    assert_eq!(rt; check_listings::<PlainTree, _>(&rt, alloc)?, 12);
+    assert_eq!(rt; check_listings::<ChainTree, _>(&rt, alloc)?, 12);
     Ok(())
 }
 
 // ---- what is in the way
 
 // The number of names that a document at the path clashes with, or `-`.
-fn clash_of(alloc: Global, tree: &PlainTree, path: &Path) -> Result<Vec<u8>, Fail> {
+fn clash_of<T: Tree>(alloc: Global, tree: &T, path: &Path) -> Result<Vec<u8>, Fail> {
     match tree.clash(path) {
         Some(count) => Ok(Tag::of(alloc, count as u64)?.as_slice().to_vec(alloc)?),
         None => Ok(b"-".to_vec(alloc)?),
@@ -218,25 +232,31 @@ const CLASHES: &str = r#"
 /a=v1 /ab/x=hello /a.b=v1        | /ab            | 1
 "#;
 
-#[test]
-fn a_clash_names_what_is_in_the_way(rt: HostRuntime) -> Result<(), Fail> {
-    let alloc = rt.alloc();
+// Each row tells what a document at its path clashes with. The number of rows.
+fn check_clashes<T: Tree, R: Abort>(rt: &R, alloc: Global) -> Result<usize, Fail> {
     let mut rows: usize = 0;
     for row in CLASHES.trim().split('\n') {
         rows = rows.saturating_add(1);
-        let (state, path, told) = case_of(alloc, row)?;
+        let (state, path, told) = case_of::<T>(alloc, row)?;
         let clash = clash_of(alloc, state.tree(), &path)?;
         assert_eq!(rt; clash.as_slice(), told, "at {row}");
         assert_eq!(rt; state.tree().full(&path), None, "at {row}");
     }
-    assert_eq!(rt; rows, 12);
+    Ok(rows)
+}
+
+#[test]
+fn a_clash_names_what_is_in_the_way(rt: HostRuntime) -> Result<(), Fail> {
+    let alloc = rt.alloc();
+    assert_eq!(rt; check_clashes::<PlainTree, _>(&rt, alloc)?, 12);
+    assert_eq!(rt; check_clashes::<ChainTree, _>(&rt, alloc)?, 12);
     Ok(())
 }
 
 // ---- bodies
 
 // The body of the document at the path, or `-`, and the sum of the lengths of all bodies.
-fn bodies_of(alloc: Global, tree: &PlainTree, path: &Path) -> Result<Vec<u8>, Fail> {
+fn bodies_of<T: Tree>(alloc: Global, tree: &T, path: &Path) -> Result<Vec<u8>, Fail> {
     let mut text = match tree.find(path) {
         Some(doc) => doc.body.as_slice().to_vec(alloc)?,
         None => b"-".to_vec(alloc)?,
@@ -256,16 +276,22 @@ const BODIES: &str = r#"
 /a/x=v1 -/a/x /a/x=v1            | /a/x  | v1 2
 "#;
 
-#[test]
-fn bodies_are_found_and_counted(rt: HostRuntime) -> Result<(), Fail> {
-    let alloc = rt.alloc();
+// Each row tells the body at its path. The number of rows.
+fn check_bodies<T: Tree, R: Abort>(rt: &R, alloc: Global) -> Result<usize, Fail> {
     let mut rows: usize = 0;
     for row in BODIES.trim().split('\n') {
         rows = rows.saturating_add(1);
-        let (state, path, told) = case_of(alloc, row)?;
+        let (state, path, told) = case_of::<T>(alloc, row)?;
         let bodies = bodies_of(alloc, state.tree(), &path)?;
         assert_eq!(rt; bodies.as_slice(), told, "at {row}");
     }
-    assert_eq!(rt; rows, 7);
+    Ok(rows)
+}
+
+#[test]
+fn bodies_are_found_and_counted(rt: HostRuntime) -> Result<(), Fail> {
+    let alloc = rt.alloc();
+    assert_eq!(rt; check_bodies::<PlainTree, _>(&rt, alloc)?, 7);
+    assert_eq!(rt; check_bodies::<ChainTree, _>(&rt, alloc)?, 7);
     Ok(())
 }

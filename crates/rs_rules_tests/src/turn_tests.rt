@@ -6,6 +6,7 @@ use crate::turn_cases::{
     ABSENT, CLASHES, EMPTIED, FIRST, FOURTH_FAILS, NARROW, PUBLIC, QUOTA, SECOND_FAILS, TAGS,
     THIRD_FAILS,
 };
+use rs_chain::ChainTree;
 use rs_face::{Keeper, MemKeeper};
 use rs_path::{Bytes, Path};
 use rs_plain::PlainTree;
@@ -17,8 +18,8 @@ use std::process::Abort;
 use std::test::Fail;
 
 // The table of a run over no rows, after the grant of these scopes; the appends with these numbers fail.
-fn run(
-    rt: &impl Abort,
+fn run<T: Tree, R: Abort>(
+    rt: &R,
     alloc: Global,
     scopes: &str,
     quota: u64,
@@ -27,7 +28,7 @@ fn run(
 ) -> Result<usize, Fail> {
     let mut keeper = MemKeeper::new(Vec::new(alloc), failing);
     let scopes = Scopes::read(alloc, scopes.as_bytes())?;
-    let Ok(mut state) = UserState::<PlainTree>::open(alloc, &mut keeper, quota) else {
+    let Ok(mut state) = UserState::<T>::open(alloc, &mut keeper, quota) else {
         return Err("rows that aren't opened")?;
     };
     let mut desk = SoloDesk::new(&mut state, &mut keeper);
@@ -39,9 +40,7 @@ fn run(
     check(rt, alloc, &mut desk, table)
 }
 
-#[test]
-fn documents_and_listings(rt: HostRuntime) -> Result<(), Fail> {
-    let alloc = rt.alloc();
+fn check_documents<T: Tree, R: Abort>(rt: &R, alloc: Global) -> Result<(), Fail> {
     for (table, rows) in [
         (FIRST, 8),
         (EMPTIED, 5),
@@ -49,10 +48,27 @@ fn documents_and_listings(rt: HostRuntime) -> Result<(), Fail> {
         (ABSENT, 3),
         (TAGS, 8),
     ] {
-        assert_eq!(rt;
-            run(&rt, alloc, "*:rw", 1000, Vec::new(alloc), table)?,
-            rows
-        );
+        let checked = run::<T, R>(rt, alloc, "*:rw", 1000, Vec::new(alloc), table)?;
+        assert_eq!(rt; checked, rows);
+    }
+    Ok(())
+}
+
+#[test]
+fn documents_and_listings(rt: HostRuntime) -> Result<(), Fail> {
+    let alloc = rt.alloc();
+    check_documents::<PlainTree, _>(&rt, alloc)?;
+    check_documents::<ChainTree, _>(&rt, alloc)
+}
+
+fn check_limits<T: Tree, R: Abort>(rt: &R, alloc: Global) -> Result<(), Fail> {
+    for (scopes, table, rows) in [
+        ("*:rw", QUOTA, 5),
+        ("notes:r", NARROW, 7),
+        ("*:rw", PUBLIC, 6),
+    ] {
+        let checked = run::<T, R>(rt, alloc, scopes, 10, Vec::new(alloc), table)?;
+        assert_eq!(rt; checked, rows);
     }
     Ok(())
 }
@@ -60,24 +76,28 @@ fn documents_and_listings(rt: HostRuntime) -> Result<(), Fail> {
 #[test]
 fn quota_and_scopes(rt: HostRuntime) -> Result<(), Fail> {
     let alloc = rt.alloc();
-    assert_eq!(rt; run(&rt, alloc, "*:rw", 10, Vec::new(alloc), QUOTA)?, 5);
-    assert_eq!(rt; run(&rt, alloc, "notes:r", 10, Vec::new(alloc), NARROW)?, 7);
-    assert_eq!(rt; run(&rt, alloc, "*:rw", 10, Vec::new(alloc), PUBLIC)?, 6);
-    Ok(())
+    check_limits::<PlainTree, _>(&rt, alloc)?;
+    check_limits::<ChainTree, _>(&rt, alloc)
 }
 
-#[test]
-fn a_failed_append_leaves_all_as_it_was(rt: HostRuntime) -> Result<(), Fail> {
-    let alloc = rt.alloc();
+fn check_failures<T: Tree, R: Abort>(rt: &R, alloc: Global) -> Result<(), Fail> {
     for (table, number, rows) in [
         (SECOND_FAILS, 2, 4),
         (THIRD_FAILS, 3, 5),
         (FOURTH_FAILS, 4, 5),
     ] {
         let failing = Vec::from_slice(alloc, &[number])?;
-        assert_eq!(rt; run(&rt, alloc, "*:rw", 1000, failing, table)?, rows);
+        let checked = run::<T, R>(rt, alloc, "*:rw", 1000, failing, table)?;
+        assert_eq!(rt; checked, rows);
     }
     Ok(())
+}
+
+#[test]
+fn a_failed_append_leaves_all_as_it_was(rt: HostRuntime) -> Result<(), Fail> {
+    let alloc = rt.alloc();
+    check_failures::<PlainTree, _>(&rt, alloc)?;
+    check_failures::<ChainTree, _>(&rt, alloc)
 }
 
 // ---- openings
