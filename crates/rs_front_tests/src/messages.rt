@@ -304,7 +304,7 @@ GET /oauth/alice?!&redirect_uri=https://app.example/ | | | bad address
 GET /oauth/alice?!&scope=notes:rw | | | redirect
 POST /oauth/alice?! | | | bad address
 POST /oauth/alice | | !&choice=allow&password=open+sesame | grant 0
-POST /oauth/alice?scope=x | Content-Type: a; Content-Type: b; If-Match: 2 | !&choice=allow&password=open+sesame | grant 0
+POST /oauth/alice?scope=x | Content-Type: a; Content-Type: b; If-Match: "2" | !&choice=allow&password=open+sesame | grant 0
 POST /oauth/alice | | !&choice=allow&password=open+sesam | page of a denial
 POST /oauth/alice | | !&choice=allow&password=s1open+sesame | page of a denial
 POST /oauth/alice | | !&choice=allow&password=open+sesame&password=open+sesame | page of a denial
