@@ -1,6 +1,8 @@
 pub mod Calls
 pub mod Causes
 pub mod Courses
+pub mod Listeners
+pub mod Listening
 pub mod Pieces
 pub mod Rows
 pub mod Told

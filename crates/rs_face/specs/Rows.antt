@@ -1,5 +1,5 @@
 -- What a keeper tells of its rows, oldest first.
-use Rattle.std.specs.Prelude.{ℕ, List, [], ◌∷◌, ◌++◌, Option}
+use Rattle.std.specs.Prelude.{◌≡◌, ℕ, List, [], ◌∷◌, ◌++◌, Option, Vec, length, take, drop, map}
 use Rattle.std.specs.Option.{option_map}
 use Rattle.rs_face.specs.Calls.{Calls}
 
@@ -10,6 +10,10 @@ with_rows told more = option_map (λ rows. rows ++ more) told
 -- told rows, and one more
 abbrev pub with_row : Option (List (List ℕ)) → List ℕ → Option (List (List ℕ))
 with_row told row = with_rows told (row ∷ [])
+
+-- these are the rows from row i on, as many as they are
+abbrev pub IsRun : {Z : Type 0} → List (List ℕ) → ℕ → List (Vec ℕ Z) → Type 0
+IsRun rows i run = take (length run) (drop i rows) ≡ map (λ row. row.items) run
 
 -- what is seen of a keeper in memory that fails: its rows and its calls
 pub record KeeperState : Type 0 where

@@ -1,7 +1,7 @@
 //! Where rows are kept.
-ghost use Rattle.std.specs.Prelude.{◌≡◌, ℕ, ◌+◌, ◌<◌, List, [], Option, Some, IfSome, OnOk, OnErr, IsErrOf, is_ok, length, slice_get, if◌then◌else◌};
+ghost use Rattle.std.specs.Prelude.{◌≡◌, ℕ, ◌+◌, ◌<◌, ◌≤◌, List, [], Option, Some, IfSome, OnOk, OnErr, IsErrOf, is_ok, length, slice_get, if◌then◌else◌};
 ghost use Rattle.rs_face.specs.Causes.{HasCause};
-ghost use Rattle.rs_face.specs.Rows.{with_row};
+ghost use Rattle.rs_face.specs.Rows.{IsRun, with_row};
 
 use std::alloc::{AllocError, AllocFailed};
 
@@ -55,6 +55,23 @@ pub trait Keeper {
         requires { i < row_count self.old }
         ensures ok { OnOk result
             (IfSome (rows self.old) (λ rows. slice_get rows i ≡ Some out.new.items)) }
+        ensures err { OnErr result (out.new.items ≡ []) }
+        ensures rows { rows self.new ≡ rows self.old }
+        ensures len { row_count self.new ≡ row_count self.old }
+        ensures cause { HasCause (faults self.old) (faults self.new) KeepFault.Failed result }
+        ensures quiet { OnOk result (faults self.new ≡ faults self.old) }
+        ensures no_memory { IsErrOf result KeepFault.NoMemory → faults self.new ≡ faults self.old };
+
+    /// Leaves row `i`, counted from 0, and as many of those behind it as the keeper reads at once, in `out`, in place of what
+    /// was there. After an error `out` is empty. Whatever it answers, the rows are as before.
+    ///
+    /// This is how many rows are read in their order: a keeper may find several at the cost of one. How many it reads at once
+    /// isn't said, but that it is at least one.
+    fn read_run(&mut self, i: u64, out: &mut Vec<Vec<u8>>) -> Result<(), KeepFault>
+        requires { i < row_count self.old }
+        ensures some { OnOk result (0 < length out.new.items) }
+        ensures within { OnOk result (i + length out.new.items ≤ row_count self.old) }
+        ensures ok { OnOk result (IfSome (rows self.old) (λ rows. IsRun rows i out.new.items)) }
         ensures err { OnErr result (out.new.items ≡ []) }
         ensures rows { rows self.new ≡ rows self.old }
         ensures len { row_count self.new ≡ row_count self.old }

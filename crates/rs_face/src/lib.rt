@@ -5,8 +5,10 @@
 mod calls;
 mod entropy;
 mod keeper;
+mod listener;
 mod mem_entropy;
 mod mem_keeper;
+mod mem_listener;
 mod mem_sink;
 mod mem_source;
 mod no_fail_keeper;
@@ -17,8 +19,10 @@ mod source;
 
 pub use entropy::{Entropy, EntropyFault};
 pub use keeper::{KeepFault, Keeper};
+pub use listener::{Ended, ListenFault, Listener};
 pub use mem_entropy::MemEntropy;
 pub use mem_keeper::MemKeeper;
+pub use mem_listener::MemListener;
 pub use mem_sink::MemSink;
 pub use mem_source::MemSource;
 pub use no_fail_keeper::NoFailKeeper;

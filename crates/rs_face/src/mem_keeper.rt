@@ -1,7 +1,8 @@
 //! A keeper in memory that fails by a list of calls.
-ghost use Rattle.std.specs.Prelude.{◌≡◌, ◌<◌, ◌↔◌, [], ◌∷◌, ◌++◌, Some, OnOk, OnErr, IsErrOf, IsTrue, is_ok, length, slice_get, if◌then◌else◌};
+ghost use Rattle.std.specs.Prelude.{◌≡◌, ◌<◌, ◌≤◌, ◌+◌, ◌↔◌, [], ◌∷◌, ◌++◌, Some, OnOk, OnErr, IsErrOf, IsTrue, is_ok, length, slice_get, if◌then◌else◌};
 ghost use Rattle.rs_face.specs.Calls.{no_calls, fails_next, after_call};
 ghost use Rattle.rs_face.specs.Causes.{HasCause};
+ghost use Rattle.rs_face.specs.Rows.{IsRun};
 
 use crate::calls::Calls;
 use crate::{Bytes, KeepFault, Keeper, NoFailKeeper};
@@ -74,6 +75,26 @@ impl Keeper for MemKeeper {
             return Err(KeepFault::Failed);
         }
         self.keeper.read(i, out)
+    }
+
+    // It reads one row at once, so that each call reads a row and may be told to fail.
+    fn read_run(&mut self, i: u64, out: &mut Vec<Vec<u8>>) -> Result<(), KeepFault>
+        requires { i < length self.old.rows }
+        ensures some { OnOk result (0 < length out.new.items) }
+        ensures within { OnOk result (i + length out.new.items ≤ length self.old.rows) }
+        ensures ok { OnOk result (IsRun self.old.rows i out.new.items) }
+        ensures err { OnErr result (out.new.items ≡ []) }
+        ensures rows { self.new.rows ≡ self.old.rows }
+        ensures cause { HasCause self.old.calls.faults self.new.calls.faults
+            KeepFault.Failed result }
+        ensures fails { IsErrOf result KeepFault.Failed ↔ IsTrue (fails_next self.old.calls) }
+        ensures calls { self.new.calls ≡ after_call self.old.calls }
+    {
+        if self.calls.fails() {
+            out.clear();
+            return Err(KeepFault::Failed);
+        }
+        self.keeper.read_run(i, out)
     }
 
     fn append(&mut self, row: &[u8]) -> Result<(), KeepFault>

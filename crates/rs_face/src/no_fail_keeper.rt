@@ -1,6 +1,6 @@
 //! A keeper in memory that never fails.
-ghost use Rattle.std.specs.Prelude.{◌≡◌, ◌+◌, ◌<◌, [], ◌∷◌, ◌++◌, Some, OnOk, OnErr, IfErr, is_ok, length, map, slice_get, if◌then◌else◌};
-ghost use Rattle.rs_face.specs.Rows.{with_row};
+ghost use Rattle.std.specs.Prelude.{◌≡◌, ◌+◌, ◌<◌, ◌≤◌, [], ◌∷◌, ◌++◌, Some, OnOk, OnErr, IfErr, is_ok, length, map, slice_get, if◌then◌else◌};
+ghost use Rattle.rs_face.specs.Rows.{IsRun, with_row};
 
 use crate::{Bytes, KeepFault, Keeper};
 use std::marker::Model;
@@ -60,6 +60,22 @@ impl Keeper for NoFailKeeper {
     {
         out.clear();
         out.extend_from_slice(self.rows[i as usize].as_slice())?;
+        Ok(())
+    }
+
+    // It reads one row at once.
+    fn read_run(&mut self, i: u64, out: &mut Vec<Vec<u8>>) -> Result<(), KeepFault>
+        requires { i < length self.old }
+        ensures some { OnOk result (0 < length out.new.items) }
+        ensures within { OnOk result (i + length out.new.items ≤ length self.old) }
+        ensures ok { OnOk result (IsRun self.old i out.new.items) }
+        ensures err { OnErr result (out.new.items ≡ []) }
+        ensures rows { self.new ≡ self.old }
+        ensures no_other { IfErr result (λ fault. fault ≡ KeepFault.NoMemory) }
+    {
+        out.clear();
+        let alloc = *self.rows.allocator();
+        out.push(Vec::from_slice(alloc, self.rows[i as usize].as_slice())?)?;
         Ok(())
     }
 

@@ -83,8 +83,17 @@ pub trait Tree: Drop {
         ensures removed { (w : Contents) (writer : Option (List ℕ)) → stands self.old w
             → stands self.new (contents_after n (RemoveRecord path.now writer) w) };
 
+    ghost use Rattle.std.specs.Prelude.{◌≡◌, false};
+    ghost use Rattle.rs_path.specs.Paths.{is_nil};
+    ghost use Rattle.rs_rules.specs.Documents.{doc_in};
     ghost use Rattle.rs_rules.specs.Sound.{AreDistinct};
+    ghost use Rattle.rs_rules.specs.Versions.{doc_version};
 
     /// No path has two documents.
     ghost distinct: { (t : Self) (w : Contents) → stands t w → AreDistinct w.docs };
+
+    /// The version of a document's path is the version of the document there, and 0 where there is none. So whoever has found
+    /// the document knows the version without a second look.
+    ghost dated: { (t : Self) (w : Contents) → stands t w → (path : PathValue) → path.folder ≡ false → is_nil path.names ≡ false
+        → w.version path ≡ doc_version (doc_in path w.docs) };
 }
