@@ -26,13 +26,13 @@ pub cast-Null : cast Integer Null ≡ Null
 unfolding unary
 cast-Null = either _ Null
 
-numbers_below : (m n : ℕ) → m < n → int_cmp (pos m) (pos n) ≡ Less
+pub numbers_below : (m n : ℕ) → m < n → int_cmp (pos m) (pos n) ≡ Less
 numbers_below m n below = grind (arith, nat_tests)
 
-numbers_above : (m n : ℕ) → n < m → int_cmp (pos m) (pos n) ≡ Greater
+pub numbers_above : (m n : ℕ) → n < m → int_cmp (pos m) (pos n) ≡ Greater
 numbers_above m n above = grind (arith, nat_tests)
 
-numbers_same : (n : ℕ) → int_cmp (pos n) (pos n) ≡ Equal
+pub numbers_same : (n : ℕ) → int_cmp (pos n) (pos n) ≡ Equal
 numbers_same n = grind (arith, nat_tests)
 
 -- an entry with the number behind the last one is put behind the last one

@@ -2,6 +2,7 @@ mod CountLemmas
 mod EntryLemmas
 mod KeeperLemmas
 mod ReopeningLemmas
+mod RunLemmas
 mod StatementLemmas
 mod TellingLemmas
 mod Texts

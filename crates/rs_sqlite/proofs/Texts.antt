@@ -5,7 +5,7 @@ use Rattle.sqlite.specs.Term.{Term, lit, col, op2}
 use Rattle.sqlite.specs.Query.{Query, inner, end}
 use Rattle.sqlite_sql.specs.Group.{Grouping}
 use Rattle.sqlite_sql.specs.declared.ops.BinaryOp.TheVariants.{Compare, Coalesce}
-use Rattle.sqlite_sql.specs.declared.ops.CompareOp.TheVariants.{Eq}
+use Rattle.sqlite_sql.specs.declared.ops.CompareOp.TheVariants.{Eq, Ge}
 use Rattle.sqlite_sql.specs.declared.aggregate.AggregateOp.TheVariants.{Count, Min, Max}
 use Rattle.sqlite.specs.Collation.TheVariants.{Binary}
 use Rattle.sqlite.specs.Source.TheVariants.{Values}
@@ -14,6 +14,7 @@ use Rattle.sqlite.specs.Compile.{table_defined_by}
 use Rattle.sqlite_tied.specs.Compute.{everything}
 use Rattle.sqlite.specs.Listing.{understood, reads_listing}
 use Rattle.sqlite.proofs.Callers.{IsPlain, command_of, statement_of}
+use Rattle.rs_sqlite.specs.Runs.{run_text}
 use Rattle.rs_sqlite.specs.Tables.{kept_table, kept_schema, empty_schema}
 
 abbrev pub create_text : List ℕ
@@ -40,6 +41,19 @@ fetch_query = record {
   distinct = false;
   collations = [];
   order = [];
+  limit = lit (Int (negsuc 0));
+  offset = lit (Int (pos 0));
+}
+
+abbrev pub run_query : Query
+run_query = record {
+  from = inner 0 end;
+  filter = op2 (Compare Ge Binary) (col 1 0) (col 0 0) ∷ [];
+  group = None;
+  project = col 1 2 ∷ [];
+  distinct = false;
+  collations = [];
+  order = (col 1 0, record { collation = Binary; descending = false }) ∷ [];
   limit = lit (Int (negsuc 0));
   offset = lit (Int (pos 0));
 }
@@ -81,6 +95,10 @@ pub fetch_is : command_of (understood kept_schema fetch_text) ≡ Select (record
 unfolding understood everything
 fetch_is = refl
 
+pub run_is : command_of (understood kept_schema run_text) ≡ Select (record { lets = []; body = run_query }) (codes "bytes" ∷ [])
+unfolding understood everything
+run_is = refl
+
 pub count_is : command_of (understood kept_schema count_text) ≡ Select (record { lets = []; body = count_query }) (codes "count(bytes)" ∷ codes "coalesce(min(n), 1)" ∷ codes "coalesce(max(n), 0)" ∷ [])
 unfolding understood everything
 count_is = refl
@@ -88,6 +106,10 @@ count_is = refl
 pub unlisted : (reads_listing kept_schema fetch_text ≡ false) × (reads_listing kept_schema count_text ≡ false)
 unfolding understood everything
 unlisted = (refl, refl)
+
+pub run_unlisted : reads_listing kept_schema run_text ≡ false
+unfolding understood everything
+run_unlisted = refl
 
 pub create_plain : IsPlain (understood empty_schema create_text)
 unfolding understood everything
@@ -104,6 +126,10 @@ insert_plain = (refl, refl)
 pub fetch_plain : IsPlain (understood kept_schema fetch_text)
 unfolding understood everything
 fetch_plain = (refl, refl)
+
+pub run_plain : IsPlain (understood kept_schema run_text)
+unfolding understood everything
+run_plain = (refl, refl)
 
 pub count_plain : IsPlain (understood kept_schema count_text)
 unfolding understood everything

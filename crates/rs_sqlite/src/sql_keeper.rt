@@ -1,14 +1,15 @@
 //! A keeper over a database.
-ghost use Rattle.std.specs.Prelude.{◌≡◌, ℕ, ◌+◌, ◌<◌, pos, List, [], ◌∷◌, ◌++◌, None, slice_get, Some, length, if◌then◌else◌, is_ok, IfOk, OnOk, OnErr, IsErrOf};
+ghost use Rattle.std.specs.Prelude.{◌≡◌, ℕ, ◌+◌, ◌<◌, ◌≤◌, pos, List, [], ◌∷◌, ◌++◌, None, slice_get, Some, length, if◌then◌else◌, is_ok, IfOk, OnOk, OnErr, IsErrOf};
 ghost use Rattle.sqlite.specs.Held.{state};
 ghost use Rattle.sqlite.specs.State.{HasCleanDisk, Survives};
 ghost use Rattle.rs_face.specs.Causes.{one_more, HasCause};
+ghost use Rattle.rs_face.specs.Rows.{IsRun};
 ghost use Rattle.rs_sqlite.specs.Limits.{max_rows};
 ghost use Rattle.rs_sqlite.specs.Keeping.{fault_of, faults_after, KeepsRows, StillKeeps};
 ghost use Rattle.rs_sqlite.specs.Tables.{IsOpenedAs, HasRows};
 
-use crate::limits::MAX_ROWS;
-use crate::statements::{fetch, insert, rows_of};
+use crate::limits::{MAX_ROWS, RUN_ROWS};
+use crate::statements::{fetch, fetch_run, insert, rows_of};
 use rs_face::{KeepFault, Keeper};
 use sqlite::{Alter, Connection, Error, ErrorCode};
 use std::marker::Model;
@@ -145,6 +146,37 @@ impl<S: Alter> Keeper for SqlKeeper<S> {
         match fetch(&mut self.connection, number_of(i)) {
             Ok(row) => {
                 *out = row;
+                Ok(())
+            }
+            Err(error) => Err(self.answer_to(&error)),
+        }
+    }
+
+    // The rows from `i` on are one scan of the table: at most `RUN_ROWS`, and no more once they have `RUN_BYTES`.
+    fn read_run(&mut self, i: u64, out: &mut Vec<Vec<u8>>) -> Result<(), KeepFault>
+        requires { i < self.old.rows }
+        ensures some { OnOk result (0 < length out.new.items) }
+        ensures within { OnOk result (i + length out.new.items ≤ self.old.rows) }
+        ensures err { OnErr result (out.new.items ≡ []) }
+        ensures len { self.new.rows ≡ self.old.rows }
+        ensures cause { HasCause self.old.faults self.new.faults KeepFault.Failed result }
+        ensures quiet { OnOk result (self.new.faults ≡ self.old.faults) }
+        ensures no_memory { IsErrOf result KeepFault.NoMemory → self.new.faults ≡ self.old.faults }
+        // What is in the table, where the disk is clean.
+        ensures run { (rows : List (List ℕ)) → KeepsRows S.Store self.old rows
+            → HasCleanDisk (state S.Store self.new.connection) → OnOk result (IsRun rows i out.new.items) }
+        ensures kept { (rows : List (List ℕ)) → KeepsRows S.Store self.old rows
+            → HasCleanDisk (state S.Store self.new.connection) → StillKeeps S.Store self.new rows }
+        // A stop leaves what it could leave before.
+        ensures stop { (rows : List (List ℕ)) → KeepsRows S.Store self.old rows
+            → Survives (state S.Store self.old.connection) (state S.Store self.new.connection) (λ _. ⊥) }
+    {
+        let alloc = *out.allocator();
+        *out = Vec::new(alloc);
+        let most = (self.len - i).min(RUN_ROWS);
+        match fetch_run(alloc, &mut self.connection, number_of(i), most) {
+            Ok(run) => {
+                *out = run;
                 Ok(())
             }
             Err(error) => Err(self.answer_to(&error)),

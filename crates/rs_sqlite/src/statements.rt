@@ -1,14 +1,19 @@
 //! The statements of a keeper, each in a function of its own, with what it does to the table of rows where the disk is clean.
 
-ghost use Rattle.std.specs.Prelude.{◌≡◌, ℕ, ◌+◌, ◌≤◌, pos, List, [], ◌∷◌, ◌++◌, Some, slice_get, length, IfOk, IfSome, OnOk, OnErr};
+ghost use Rattle.std.specs.Prelude.{◌≡◌, ℕ, ◌+◌, ◌<◌, ◌≤◌, pos, List, [], ◌∷◌, ◌++◌, Some, slice_get, length, IfOk, IfSome, OnOk, OnErr};
+ghost use Rattle.rs_face.specs.Rows.{IsRun};
+ghost use Rattle.sqlite.specs.declared.types.Value.{Value};
 ghost use Rattle.sqlite.specs.declared.types.Value.TheVariants.{Int, Blob};
 ghost use Rattle.sqlite.specs.Order.{column};
 ghost use Rattle.sqlite.specs.Held.{state};
 ghost use Rattle.sqlite.specs.State.{HasCleanDisk, Survives};
 ghost use Rattle.rs_sqlite.specs.Limits.{max_rows};
+ghost use Rattle.rs_sqlite.specs.Runs.{HasBegunRun, HasShown, ShowsNext};
 ghost use Rattle.rs_sqlite.specs.Tables.{HoldsRows, IsOpenedAs, LeavesRows, HasRows};
 
-use sqlite::{Alter, Connection, Error, Row, params};
+use crate::limits::RUN_BYTES;
+use sqlite::{Alter, Connection, Error, Row, Rows, params};
+use std::alloc::Global;
 
 /// How many rows the database has, numbered from 1 without a gap; None where they are numbered otherwise. The table
 /// is made where it isn't there.
@@ -105,4 +110,77 @@ fn ask_row<S: Alter>(connection: &mut Connection<S>, n: i64) -> Result<Row, Erro
         → Survives (state S.Store connection.old) (state S.Store connection.new) (λ _. ⊥) }
 {
     connection.query_row("SELECT bytes FROM kept WHERE n = ?1", params![n])
+}
+
+/// The row at the position `first` and those behind it: at least one and at most `most`, and no more once they have
+/// `RUN_BYTES`. They are one scan of the table, which reads no row twice and holds few more than it answers.
+pub(crate) fn fetch_run<S: Alter>(
+    alloc: Global,
+    connection: &mut Connection<S>,
+    first: i64,
+    most: u64,
+) -> Result<Vec<Vec<u8>>, Error>
+    requires { 0 < most }
+    ensures some { IfOk result (λ run. 0 < length run.items) }
+    ensures most { IfOk result (λ run. length run.items ≤ most) }
+    ensures run { (rows : List (List ℕ)) (i : ℕ) → HoldsRows (state S.Store connection.old) rows → first ≡ pos (1 + i)
+        → HasCleanDisk (state S.Store connection.new) → IfOk result (λ run. IsRun rows i run.items) }
+    ensures holds { (rows : List (List ℕ)) → HoldsRows (state S.Store connection.old) rows
+        → HasCleanDisk (state S.Store connection.new) → LeavesRows (state S.Store connection.new) rows }
+    ensures stop { (rows : List (List ℕ)) → HoldsRows (state S.Store connection.old) rows
+        → Survives (state S.Store connection.old) (state S.Store connection.new) (λ _. ⊥) }
+{
+    let mut rows = connection.query(
+        "SELECT bytes FROM kept WHERE n >= ?1 ORDER BY n",
+        params![first],
+    )?;
+    take_run(alloc, &mut rows, most)
+}
+
+fn take_run<S: Alter>(
+    alloc: Global,
+    rows: &mut Rows<'_, S>,
+    most: u64,
+) -> Result<Vec<Vec<u8>>, Error>
+    requires { 0 < most }
+    ensures same_reference { rows.new.conn.ghost_name ≡ rows.old.conn.ghost_name }
+    ensures some { IfOk result (λ run. 0 < length run.items) }
+    ensures most { IfOk result (λ run. length run.items ≤ most) }
+    ensures shown { (params : List Value) → HasBegunRun S.Store params rows.old.conn.now
+        → HasCleanDisk (state S.Store rows.new.conn.now) → IfOk result (λ run. HasShown S.Store params rows.new.conn.now run.items) }
+    ensures holds { (told : List (List ℕ)) → HoldsRows (state S.Store rows.old.conn.now) told
+        → HasCleanDisk (state S.Store rows.new.conn.now) → OnOk result (HoldsRows (state S.Store rows.new.conn.now) told) }
+    ensures leaves { (told : List (List ℕ)) → HoldsRows (state S.Store rows.old.conn.now) told
+        → HasCleanDisk (state S.Store rows.new.conn.now) → OnErr result (LeavesRows (state S.Store rows.new.conn.now) told) }
+    ensures stop { Survives (state S.Store rows.old.conn.now) (state S.Store rows.new.conn.now) (λ _. ⊥) }
+{
+    let mut run = Vec::new(alloc);
+    let mut bytes = 0usize;
+    'rows: for count in 0..most {
+        let row = next_bytes(rows)?;
+        bytes = bytes.saturating_add(row.len());
+        run.push(row)?;
+        if bytes >= RUN_BYTES {
+            return Ok(run);
+        }
+    }
+    Ok(run)
+}
+
+// The bytes of the next row. Where there is none the database has fewer rows than the keeper counts, which is a fault.
+fn next_bytes<S: Alter>(rows: &mut Rows<'_, S>) -> Result<Vec<u8>, Error>
+    ensures same_reference { rows.new.conn.ghost_name ≡ rows.old.conn.ghost_name }
+    ensures next { HasCleanDisk (state S.Store rows.new.conn.now)
+        → IfOk result (λ bytes. ShowsNext S.Store rows.old.conn.now rows.new.conn.now bytes) }
+    ensures holds { (told : List (List ℕ)) → HoldsRows (state S.Store rows.old.conn.now) told
+        → HasCleanDisk (state S.Store rows.new.conn.now) → OnOk result (HoldsRows (state S.Store rows.new.conn.now) told) }
+    ensures leaves { (told : List (List ℕ)) → HoldsRows (state S.Store rows.old.conn.now) told
+        → HasCleanDisk (state S.Store rows.new.conn.now) → OnErr result (LeavesRows (state S.Store rows.new.conn.now) told) }
+    ensures stop { Survives (state S.Store rows.old.conn.now) (state S.Store rows.new.conn.now) (λ _. ⊥) }
+{
+    rows.advance()?;
+    match rows.get() {
+        Some(row) => row.get(0),
+        None => Err(Error::QueryReturnedNoRows),
+    }
 }

@@ -104,6 +104,10 @@ impl<S: Steadfast + Drop> Keeper for TellingKeeper<S> {
         self.keeper.read(i, out)
     }
 
+    fn read_run(&mut self, i: u64, out: &mut Vec<Vec<u8>>) -> Result<(), KeepFault> {
+        self.keeper.read_run(i, out)
+    }
+
     fn append(&mut self, row: &[u8]) -> Result<(), KeepFault> {
         self.keeper.append(row)
     }

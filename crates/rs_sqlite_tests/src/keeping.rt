@@ -51,7 +51,7 @@ fn keep_two<S: Alter + Drop>(keeper: &mut SqlKeeper<S>) -> Result<(), KeepFault>
 }
 
 // The row, or None where there is none at this place.
-fn row_at<S: Alter + Drop>(
+pub(crate) fn row_at<S: Alter + Drop>(
     alloc: Global,
     keeper: &mut SqlKeeper<S>,
     i: u64,
@@ -111,7 +111,7 @@ fn rows_stay_in_the_files(rt: HostRuntime) -> Result<(), Fail> {
 }
 
 // A database in memory in which these statements were run.
-fn database(alloc: Global, statements: &[&str]) -> Result<Connection<MemStore>, Error> {
+pub(crate) fn database(alloc: Global, statements: &[&str]) -> Result<Connection<MemStore>, Error> {
     let mut connection = Connection::open_in_memory(alloc)?;
     for sql in statements {
         execute(&mut connection, sql)?;
