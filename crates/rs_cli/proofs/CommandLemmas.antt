@@ -11,7 +11,7 @@ use Rattle.rs_cli.specs.declared.forms.Place.TheVariants.{User, Token, Scopes, N
 use Rattle.rs_cli.specs.Forms.{literally, takes, tests_of}
 use Rattle.rs_cli.specs.Numbers.{number_spelled}
 use Rattle.rs_cli.specs.Scans.{fits}
-use Rattle.rs_cli.specs.Secrets.{secret_reading}
+use Rattle.rs_config.specs.Secrets.{secret_reading}
 use Rattle.rs_cli.specs.Commands.{Setting, full_setting, IsPipe, word_at}
 
 -- each place takes its word

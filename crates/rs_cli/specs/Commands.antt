@@ -14,7 +14,7 @@ use Rattle.rs_cli.specs.declared.forms.Form.{Form}
 use Rattle.rs_cli.specs.Forms.{tests_of, wrong_word}
 use Rattle.rs_cli.specs.Scans.{fits, some_fits, most_taken}
 use Rattle.rs_cli.specs.Numbers.{number_spelled}
-use Rattle.rs_cli.specs.Secrets.{secret_reading}
+use Rattle.rs_config.specs.Secrets.{secret_reading}
 
 -- the quota where none is given, in bytes
 abbrev pub default_quota : ℕ

@@ -10,8 +10,8 @@ use Rattle.rs_cli.specs.declared.forms.Form.TheVariants as form
 use Rattle.rs_cli.specs.declared.forms.Place.{Place}
 use Rattle.rs_cli.specs.declared.forms.Place.TheVariants.{User, Token, Scopes, Number, Origin, Any, Secret}
 use Rattle.rs_cli.specs.Numbers.{number_spelled}
-use Rattle.rs_cli.specs.Origins.{is_origin}
-use Rattle.rs_cli.specs.Secrets.{secret_reading}
+use Rattle.rs_config.specs.Origins.{is_origin}
+use Rattle.rs_config.specs.Secrets.{secret_reading}
 
 -- what a place takes: USER; TOKEN, 32 lower hexadecimal digits; SCOPES; a number; an origin; any word; SECRET, 64
 -- lower hexadecimal digits

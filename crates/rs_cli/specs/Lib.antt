@@ -11,5 +11,3 @@ pub mod Pipes
 pub mod Texts
 pub mod Runs
 pub mod Completeness
-pub mod Origins
-pub mod Secrets

@@ -13,7 +13,7 @@ use Rattle.rs_user.specs.Standing.{StandsFor}
 use Rattle.rs_user.specs.Openings.{AreToldRows}
 use Rattle.rs_exchange.specs.declared.account.Config.{Config}
 use Rattle.rs_cli.specs.Commands.{Setting}
-use Rattle.rs_cli.specs.Origins.{host_of}
+use Rattle.rs_config.specs.Origins.{host_of}
 use Rattle.rs_front.specs.declared.serve.End.{End}
 use Rattle.rs_front.specs.Due.{Users}
 use Rattle.rs_front.specs.Ends.{Serves}

@@ -5,8 +5,7 @@ ghost use Rattle.rs_scope.specs.ScopeReadings.{scopes_reading};
 ghost use Rattle.rs_cli.specs.Forms.{forms};
 
 use crate::number::read_number;
-use crate::origin::is_origin;
-use crate::secret::read_secret;
+use rs_config::{is_origin, read_secret};
 use rs_path::{NoMemory, is_user};
 use rs_scope::{ScopeFault, Scopes, Token};
 use std::alloc::Global;

@@ -8,12 +8,12 @@ ghost use Rattle.rs_cli.specs.Numbers.{number_spelled};
 ghost use Rattle.rs_cli.specs.Forms.{takes, tests_of};
 ghost use Rattle.rs_cli.specs.Scans.{count_taken, fits};
 ghost use Rattle.rs_cli.specs.Commands.{AsksFor, FindsAmong, FindsForm, ReadsCommand, plain_setting, setting_in, word_at};
-ghost use Rattle.rs_cli.specs.Secrets.{secret_reading};
+ghost use Rattle.rs_config.specs.Secrets.{secret_reading};
 
 use crate::command::{Command, Serving, WordFault};
 use crate::forms::{Form, Place, forms};
 use crate::number::read_number;
-use crate::secret::read_secret;
+use rs_config::read_secret;
 use rs_path::NoMemory;
 use rs_scope::{Scopes, Token};
 use std::alloc::Global;

@@ -4,7 +4,7 @@ ghost use Rattle.std.specs.Prelude.{◌≡◌, IfOk, Ok, codes, option_map};
 ghost use Rattle.std.specs.Str.{bytes_eq};
 ghost use Rattle.url.specs.Origin.{origin_of, ascii_serialization};
 ghost use Rattle.rs_exchange.specs.Targets.{after_prefix, or_else};
-ghost use Rattle.rs_cli.specs.Origins.{is_origin, host_of, has_origin};
+ghost use Rattle.rs_config.specs.Origins.{is_origin, host_of, has_origin};
 
 use rs_path::NoMemory;
 use std::alloc::Global;

@@ -3,7 +3,7 @@
 ghost use Rattle.std.specs.Prelude.{◌≡◌};
 ghost use Rattle.std.specs.List.{list_all};
 ghost use Rattle.rs_scope.specs.Tokens.{is_lower_digit};
-ghost use Rattle.rs_cli.specs.Secrets.{secret_reading};
+ghost use Rattle.rs_config.specs.Secrets.{secret_reading};
 
 /// The 32 bytes with this text, or None where it isn't exactly 64 lower hexadecimal digits.
 pub fn read_secret(text: &[u8]) -> Option<[u8; 32]>

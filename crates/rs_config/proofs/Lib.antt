@@ -1,0 +1,4 @@
+mod MatchLemmas
+mod ServeLemmas
+mod ValueLemmas
+mod SettingLemmas

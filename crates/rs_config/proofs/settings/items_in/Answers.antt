@@ -1,0 +1,10 @@
+use Rattle.std.proofs.Common.{◌∙◌, ap, map, option_map, Some, sym}
+use Rattle.toml.specs.View.{view}
+use Rattle.rs_config.specs.ServeSettings.{listed}
+use Rattle.rs_config.proofs.ValueLemmas.{listed_items}
+use Rattle.rs_config.proofs.settings.items_in.Goals as goal
+
+pub returns-in-Some : goal.returns-in-Some
+returns-in-Some c = record {
+  items = ap Some (sym (listed_items (map view c.in-Some.values.now.items))) ∙ ap (option_map listed) c.in-Some.ensures;
+}

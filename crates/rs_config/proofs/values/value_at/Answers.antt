@@ -1,0 +1,8 @@
+use Rattle.std.proofs.Common.{refl}
+use Rattle.toml.proofs.Views.{table_get}
+use Rattle.rs_config.proofs.values.value_at.Goals as goal
+
+pub returns : goal.returns
+returns c = record {
+  value = rw (← c.text.ensures.text) (table_get c.get.result c.text.result.now c.args.table.now.entries c.get.ensures.value);
+}

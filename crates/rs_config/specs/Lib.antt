@@ -1,0 +1,9 @@
+pub mod Origins
+pub mod Secrets
+pub mod ConfigKeys
+pub mod TomlValues
+pub mod UserSettings
+pub mod ServeSettings
+pub mod UsersSeen
+pub mod ConfigReadings
+pub mod ServeWordings
