@@ -100,5 +100,6 @@ module _ (s : Slab Node) (root : ℕ) (x : Node) (is_root : get s root ≡ Some 
     };
     distinct = refl;
     plain = refl;
+    dated = λ q document. refl;
     live_is = refl;
   }

@@ -86,6 +86,7 @@ module _ (s t : Slab Node) (same : SameButRoom s t) where
         (room_field number (λ o. option_map_or (λ (d : Doc). d.version) o.0.1 o.0.2) 0 (λ x. refl)) stands.shows;
     distinct = stands.distinct;
     plain = stands.plain;
+    dated = stands.dated;
     live_is = stands.live_is;
   }
 

@@ -1,7 +1,7 @@
 -- The tree after a Put and after a Remove.
 use Rattle.std.proofs.Common.{◌≡◌, ◌⊎◌, ◌<◌, ◌≤◌, ℕ, ◌+◌, ◌-◌, Bool, true, false, not, ◌||◌, ◌&&◌, cond, List, [], ◌∷◌, ◌++◌, length, Option, Some, None, is_some, nat_le, arith, refl, sym, ap, ◌∙◌, subst, ⊎_elim, length-append}
 use Rattle.std.specs.List.{list_all}
-use Rattle.std.proofs.lemmas.Bool.{and_parts, true≢false}
+use Rattle.std.proofs.lemmas.Bool.{and_parts, cond-false, true≢false}
 use Rattle.std.proofs.lemmas.Bool.Decides.{nat_tests}
 use Rattle.std.proofs.lemmas.List.Sums.{sum_by_push}
 use Rattle.slab.specs.Slab.{Slab}
@@ -11,10 +11,12 @@ use Rattle.rs_path.specs.Names.{is_name}
 use Rattle.rs_path.specs.Paths.{Path, is_nil, is_path, same_path}
 use Rattle.rs_path.specs.Below.{is_below, is_inside}
 use Rattle.rs_path.specs.Children.{child_at}
+use Rattle.rs_record.specs.declared.records.Record.{Record}
 use Rattle.rs_record.specs.declared.records.Record.TheVariants.{Put, Remove}
 use Rattle.rs_rules.specs.declared.doc.Doc.{Doc}
 use Rattle.rs_rules.specs.declared.placed.Placed.{Placed}
-use Rattle.rs_rules.specs.Documents.{others, placed_document, doc_in, live_in}
+use Rattle.rs_rules.specs.Documents.{others, placed_document, docs_after, doc_in, live_in}
+use Rattle.rs_rules.specs.Versions.{writes_below, is_there, doc_version}
 use Rattle.rs_rules.specs.Contents.{Contents, contents_after}
 use Rattle.rs_rules.specs.Sound.{AreDistinct}
 use Rattle.rs_rules.proofs.Cited.{distinct-after}
@@ -87,6 +89,14 @@ live_put live now before left all size sum rest whole = omega (arith, sum, rest,
 live_removed : (live now before left : ℕ) → now ≡ live - before → left + before ≡ live → now ≡ left
 live_removed live now before left less rest = omega (arith, less, rest)
 
+-- ---- the version of a document's path
+
+dated_after : (n : ℕ) (what : Record) (w : Contents) (q : Path) → q.folder ≡ false
+    → (contents_after n what w).version q ≡ doc_version (doc_in q (contents_after n what w).docs)
+dated_after n what w q document =
+    let now = docs_after n what w.docs in
+    cond-false q.folder (cond (writes_below q what) (cond (is_there q now) n 0) (w.version q)) (doc_version (doc_in q now)) document
+
 -- ---- Put
 
 module _ (s t u : Slab Node) (root n after : ℕ) (p : Path) (key : ℕ) (kind body : List ℕ) (w : Contents) (document : p.folder ≡ false) (named : is_nil p.names ≡ false)
@@ -110,6 +120,7 @@ module _ (s t u : Slab Node) (root n after : ℕ) (p : Path) (key : ℕ) (kind b
         shows = put_shows s t u root n p key kind body by w document (placed_of p named) listed stands.shows put climbed.numbers climbed.same;
         distinct = distinct-after n (Put p kind body by) w.docs stands.distinct;
         plain = put_plain n p kind body w.docs document stands.plain;
+        dated = dated_after n (Put p kind body by) w;
         live_is = live_put live now before (live_in (others p w.docs)) _ (length body) sum rest whole;
       }
 
@@ -135,6 +146,7 @@ module _ (s t u : Slab Node) (root n after : ℕ) (p front : Path) (key : ℕ) (
         shows = remove_shows s t u root n p front key by w document listed stands.shows cut one_above (child_below front) (folder_placed front p cut.below) climbed.numbers climbed.same;
         distinct = distinct-after n (Remove p by) w.docs stands.distinct;
         plain = others_plain p w.docs stands.plain;
+        dated = dated_after n (Remove p by) w;
         live_is = live_removed live now before (live_in (others p w.docs)) less rest;
       }
 

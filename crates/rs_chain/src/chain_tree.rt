@@ -60,7 +60,7 @@ impl ChainTree {
 }
 
 impl Tree for ChainTree {
-    ghost use Rattle.rs_chain.specs.Shown.{NodesStandFor, nodes_distinct};
+    ghost use Rattle.rs_chain.specs.Shown.{NodesStandFor, nodes_distinct, nodes_dated};
     ghost use Rattle.rs_chain.specs.Rooms.{IsSpareFor};
 
     type Ready = Room;
@@ -70,6 +70,8 @@ impl Tree for ChainTree {
     ghost ready_for = { λ t room path kind body. IsSpareFor t.nodes t.root room path kind body };
 
     ghost distinct = { λ t w s. nodes_distinct t.nodes t.root t.live w s };
+
+    ghost dated = { λ t w s path document named. nodes_dated t.nodes t.root t.live w s path document };
 
     fn new(alloc: Global) -> Result<ChainTree, NoMemory> {
         let mut nodes = Slab::new(alloc);

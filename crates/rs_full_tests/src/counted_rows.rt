@@ -28,6 +28,11 @@ impl Keeper for CountedRows {
         Err(KeepFault::NoMemory)
     }
 
+    fn read_run(&mut self, _i: u64, out: &mut Vec<Vec<u8>>) -> Result<(), KeepFault> {
+        out.clear();
+        Err(KeepFault::NoMemory)
+    }
+
     fn append(&mut self, _row: &[u8]) -> Result<(), KeepFault> {
         if self.len == u64::MAX {
             return Err(KeepFault::NoMemory);

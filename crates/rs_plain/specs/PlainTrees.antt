@@ -1,6 +1,7 @@
 -- What a plain tree shows and what it stands for.
-use Rattle.std.specs.Prelude.{◌≡◌, ◌<◌, ◌^◌, ℕ, Bool, true, not, List, fold, filter, if◌then◌else◌}
-use Rattle.std.proofs.Common.{ap, ◌∙◌}
+use Rattle.std.specs.Prelude.{◌≡◌, ◌<◌, ◌^◌, ℕ, Bool, true, false, not, List, fold, filter, if◌then◌else◌}
+use Rattle.std.proofs.Common.{ap, sym, ◌∙◌}
+use Rattle.std.proofs.lemmas.Bool.{cond-false}
 use Rattle.std.specs.List.{list_all, list_any}
 use Rattle.rs_path.specs.Paths.{Path, same_path}
 use Rattle.rs_path.specs.Below.{is_below}
@@ -55,3 +56,10 @@ pub record IsRoomFor (docs_len docs_room writes_len writes_room : ℕ) (room : R
 
 pub stands_distinct : (docs : List Placed) (writes : List Write) (w : Contents) → ListsStandFor docs writes w → AreDistinct w.docs
 stands_distinct docs writes w s = ap (λ (v : Contents). are_distinct v.docs) s.same ∙ s.distinct
+
+pub stands_dated : (docs : List Placed) (writes : List Write) (w : Contents) → ListsStandFor docs writes w
+    → (path : Path) → path.folder ≡ false → w.version path ≡ doc_version (doc_in path w.docs)
+stands_dated docs writes w s path document =
+    ap (λ (v : Contents). v.version path) s.same
+    ∙ cond-false path.folder (if is_there path docs then last_write path writes else 0) (doc_version (doc_in path docs)) document
+    ∙ sym (ap (λ (v : Contents). doc_version (doc_in path v.docs)) s.same)

@@ -25,7 +25,7 @@ pub struct PlainTree {
 
 impl Tree for PlainTree {
     ghost use Rattle.std.specs.Prelude.{◌≤◌, vec_len, vec_capacity};
-    ghost use Rattle.rs_plain.specs.PlainTrees.{ListsStandFor, IsRoomFor, stands_distinct};
+    ghost use Rattle.rs_plain.specs.PlainTrees.{ListsStandFor, IsRoomFor, stands_distinct, stands_dated};
 
     type Ready = Room;
 
@@ -34,6 +34,8 @@ impl Tree for PlainTree {
     ghost ready_for = { λ t room path kind body. IsRoomFor (vec_len t.docs) (vec_capacity t.docs) (vec_len t.writes) (vec_capacity t.writes) room path kind body };
 
     ghost distinct = { λ t w s. stands_distinct t.docs.items t.writes.items w s.0 };
+
+    ghost dated = { λ t w s path document named. stands_dated t.docs.items t.writes.items w s.0 path document };
 
     fn new(alloc: Global) -> Result<PlainTree, NoMemory> {
         Ok(PlainTree {

@@ -1,9 +1,9 @@
 //! The body of a request, as its bytes come (RFC 9112, sections 6 and 7.1).
 
-ghost use Rattle.std.specs.Prelude.{◌≡◌, ◌+◌, ◌^◌, ◌<◌, ◌≤◌, ◌==◌, None, min, [], length, take, ◌++◌, IfOk, IfSome, OnOk, OnErr};
+ghost use Rattle.std.specs.Prelude.{◌≡◌, ℕ, true, false, Ok, ◌+◌, ◌^◌, ◌<◌, ◌≤◌, ◌==◌, None, min, [], length, take, ◌++◌, IfOk, IfSome, OnOk, OnErr};
 ghost use Rattle.rs_request.specs.Bodies.{has_line_end, first_part, next_part};
 ghost use Rattle.rs_request.specs.ChunkTexts.{size_of};
-ghost use Rattle.rs_request.specs.BodyReaders.{IsMoveWithin, IsPartAt, IsMove, IsLineSought, IsSameBody};
+ghost use Rattle.rs_request.specs.BodyReaders.{Moves, IsMoveWithin, IsPartAt, IsMove, IsLineSought, IsSameBody};
 ghost use Rattle.rs_request.specs.Limits.{max_trailer};
 ghost use Rattle.rs_request.specs.Lines.{first_line};
 ghost use Rattle.rs_request.specs.Sought.{IsSought};
@@ -126,6 +126,51 @@ impl BodyReader {
             Part::Data(left) => self.data_part(left, rest, at),
             Part::Trailer(search) => Ok(self.trailer_part(search, rest, at)),
         }
+    }
+
+    /// Takes a whole piece, where the bytes that come next are known to be more of the body than it. Says whether it did.
+    pub(crate) fn take_whole(&mut self, piece: &[u8]) -> Result<bool, NoMemory>
+        ensures took { result ≡ Ok true → (at : ℕ) → Moves self.old self.new at (length piece.now) piece.now }
+        ensures other { result ≡ Ok false → IsSameBody self.old self.new }
+        ensures err { OnErr result (IsSameBody self.old self.new) }
+    {
+        match self.part {
+            Part::Length(left) => self.take_of_length(left, piece),
+            Part::Data(left) => self.take_of_chunk(left, piece),
+            Part::Line(_) | Part::Trailer(_) => Ok(false),
+        }
+    }
+
+    // The same of a body of known length.
+    fn take_of_length(&mut self, left: u64, piece: &[u8]) -> Result<bool, NoMemory>
+        requires { self.old.part ≡ Part.Length left }
+        ensures took { result ≡ Ok true → (at : ℕ) → Moves self.old self.new at (length piece.now) piece.now }
+        ensures other { result ≡ Ok false → IsSameBody self.old self.new }
+        ensures err { OnErr result (IsSameBody self.old self.new) }
+    {
+        let count = piece.len() as u64;
+        if left <= count {
+            return Ok(false);
+        }
+        put_some(&mut self.body, piece, left)?;
+        self.part = Part::Length(left - count);
+        Ok(true)
+    }
+
+    // The same of a chunk.
+    fn take_of_chunk(&mut self, left: u64, piece: &[u8]) -> Result<bool, NoMemory>
+        requires { self.old.part ≡ Part.Data left }
+        ensures took { result ≡ Ok true → (at : ℕ) → Moves self.old self.new at (length piece.now) piece.now }
+        ensures other { result ≡ Ok false → IsSameBody self.old self.new }
+        ensures err { OnErr result (IsSameBody self.old self.new) }
+    {
+        let count = piece.len() as u64;
+        if left <= count {
+            return Ok(false);
+        }
+        put_some(&mut self.body, piece, left)?;
+        self.part = Part::Data(left - count);
+        Ok(true)
     }
 
     /// Takes bytes of a body of known length.

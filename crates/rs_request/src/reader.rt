@@ -1,6 +1,6 @@
 //! Requests, read from a stream that comes in any pieces.
 
-ghost use Rattle.std.specs.Prelude.{◌≡◌, ◌+◌, ◌^◌, ◌<◌, ◌≤◌, length, take, drop, None, Some, Ok, Err, not, ◌&&◌, OnOk, OnErr};
+ghost use Rattle.std.specs.Prelude.{◌≡◌, ◌+◌, ◌^◌, ◌<◌, ◌≤◌, [], length, take, drop, None, Some, Ok, Err, not, ◌&&◌, OnOk, OnErr};
 
 use crate::body::{BodyReader, Move};
 use crate::buffer::Buffer;
@@ -35,7 +35,7 @@ pub(crate) enum Stage {
 /// Reads requests from a stream that comes in any pieces.
 ///
 /// What it answers is a function of the bytes that it was fed since the last message, however they were cut. Its work is
-/// linear in the bytes of the stream.
+/// linear in the bytes of the stream. A piece inside a body is put at the body's end and kept nowhere else.
 #[derive(Debug, Drop)]
 pub struct RequestReader {
     alloc: Global,
@@ -81,6 +81,36 @@ impl RequestReader {
         ensures count { OnOk result (fed_count self.new ≡ fed_count self.old + length piece.now) }
         ensures same_count { OnErr result (fed_count self.new ≡ fed_count self.old) }
     {
+        if !self.buffer.as_slice().is_empty() {
+            return self.buffer.append(piece);
+        }
+        match mem::replace(&mut self.stage, start()) {
+            Stage::Body(opened) => self.feed_body(opened, piece),
+            stage => {
+                self.stage = stage;
+                self.buffer.append(piece)
+            }
+        }
+    }
+
+    // Takes the next piece where all before it was taken. What of it is surely of a body goes straight into the body.
+    #[tactic(auto, unfolding(crate::specs::Readers::fed_count))]
+    fn feed_body(&mut self, opened: Opened, piece: &[u8]) -> Result<(), NoMemory>
+        requires empty { self.old.buffer ≡ [] }
+        requires few { fed_count self.old + length piece.now < 2 ^ 64 }
+        ensures ok { (fed : Fed) → IsFed (Stage.Body opened) self.old.taken self.old.buffer fed
+            → OnOk result (Stands self.new (fed_with fed piece.now)) }
+        ensures err { (fed : Fed) → IsFed (Stage.Body opened) self.old.taken self.old.buffer fed → OnErr result (Stands self.new fed) }
+        ensures count { OnOk result (fed_count self.new ≡ fed_count self.old + length piece.now) }
+        ensures same_count { OnErr result (fed_count self.new ≡ fed_count self.old) }
+    {
+        let mut opened = opened;
+        let took = opened.reader.take_whole(piece);
+        self.stage = Stage::Body(opened);
+        if took? {
+            self.taken = self.taken.saturating_add(piece.len() as u64);
+            return Ok(());
+        }
         self.buffer.append(piece)
     }
 

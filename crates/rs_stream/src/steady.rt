@@ -3,6 +3,7 @@ ghost use Rattle.std.specs.Prelude.{◌≡◌, Bool, true, false, is_some, refl}
 
 use std::alloc::Allocator;
 use std::io::{Read, Stderr, Stdin, Stdout, Write};
+use std::net::TcpStream;
 
 /// A reader that always knows the bytes that it will give, or never does.
 ///
@@ -29,6 +30,12 @@ impl SteadyRead for Stdin {
     ghost steady = { λ _. refl };
 }
 
+impl SteadyRead for TcpStream {
+    ghost is_telling = { false };
+
+    ghost steady = { λ _. refl };
+}
+
 impl SteadyRead for &[u8] {
     ghost is_telling = { true };
 
@@ -42,6 +49,12 @@ impl SteadyWrite for Stdout {
 }
 
 impl SteadyWrite for Stderr {
+    ghost is_telling = { false };
+
+    ghost steady = { λ _. refl };
+}
+
+impl SteadyWrite for TcpStream {
     ghost is_telling = { false };
 
     ghost steady = { λ _. refl };

@@ -1,5 +1,6 @@
 pub mod Grants
 pub mod Standing
+pub mod Sights
 pub mod Decisions
 pub mod Turns
 pub mod Preparations

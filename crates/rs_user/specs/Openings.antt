@@ -1,5 +1,5 @@
 -- What rows are opened as.
-use Rattle.std.specs.Prelude.{◌≡◌, ℕ, ◌+◌, Bool, true, false, ◌&&◌, nat_lt, List, [], ◌∷◌, map, Option, IfSome, Result, Ok, Err, if◌then◌else◌}
+use Rattle.std.specs.Prelude.{◌≡◌, ℕ, ◌+◌, Bool, true, false, ◌&&◌, nat_lt, List, [], ◌∷◌, ◌++◌, length, map, Option, IfSome, Result, Ok, Err, if◌then◌else◌}
 use Rattle.rs_path.specs.declared.log_entry.LogEntry.{LogEntry}
 use Rattle.rs_record.specs.declared.record_fault.RecordFault.{RecordFault}
 use Rattle.rs_record.specs.declared.record_fault.RecordFault.TheVariants.{Bad, NoMemory as NoMemoryToRead}
@@ -104,3 +104,21 @@ module _ {T R : Type 0} (tree_stands : T → Contents → Type 0) where
       (at ≡ index) × ((what : Record) × (record_reading row ≡ Ok what) × (may_be_next h what ≡ false))
   TakesRow state (Err KeeperFailed) row index h = ⊥
   TakesRow state (Err NoMemory) row index h = Unit {0}
+
+  -- the state, which stood for the history, stands for it followed by the records of a run of rows, the first of which has the
+  -- index: whatever rows come behind them are opened as behind it
+  pub record TakenRun (state : UserState T R) (run : List (List ℕ)) (index : ℕ) (h : History) : Type 0 where
+    pub history : History
+    pub left : (rest : List (List ℕ)) → opening_from index h (run ++ rest) ≡ opening_from (index + length run) history rest
+    pub rows : rows_of history ≡ rows_of h ++ run
+    pub base : history.base ≡ h.base
+    pub nobody : h ≡ by_nobody h → history ≡ by_nobody history
+    pub stands : StandsFor tree_stands state history
+
+  -- what a run of rows has done to the state: the first of them that is wrong is refused, whatever rows come behind them
+  abbrev pub TakesRun : UserState T R → Result (Unit {0}) OpenFault → List (List ℕ) → ℕ → History → Type 0
+  TakesRun state (Ok done) run index h = TakenRun state run index h
+  TakesRun state (Err (BadRow at place)) run index h = (rest : List (List ℕ)) → opening_from index h (run ++ rest) ≡ Err (BadRow at place)
+  TakesRun state (Err (Unlawful at)) run index h = (rest : List (List ℕ)) → opening_from index h (run ++ rest) ≡ Err (Unlawful at)
+  TakesRun state (Err KeeperFailed) run index h = ⊥
+  TakesRun state (Err NoMemory) run index h = Unit {0}

@@ -14,6 +14,7 @@ mod opening;
 mod place;
 mod preparation;
 mod regrants;
+mod sight;
 mod solo_desk;
 mod state;
 mod turning;

@@ -1,13 +1,13 @@
 //! Rows opened as a state.
 
-ghost use Rattle.std.specs.Prelude.{◌≡◌, ◌+◌, true, IfOk, IfSome, OnOk};
+ghost use Rattle.std.specs.Prelude.{◌≡◌, ◌+◌, ◌<◌, ◌^◌, true, length, map, IfOk, IfSome, OnOk};
 ghost use Rattle.rs_face.specs.Causes.{HasCause};
 ghost use Rattle.rs_record.specs.Records.{body_limit};
 ghost use Rattle.rs_rules.specs.Histories.{History, with_entry};
 ghost use Rattle.rs_rules.specs.Snapshots.{snapshot};
 ghost use Rattle.rs_rules.specs.Lawful.{may_follow, writer_may};
 ghost use Rattle.rs_user.specs.Standing.{StandsFor};
-ghost use Rattle.rs_user.specs.Openings.{may_be_next, Opens, StandsAnew, TakesRow, TakesRecord};
+ghost use Rattle.rs_user.specs.Openings.{may_be_next, Opens, StandsAnew, TakesRun, TakesRow, TakesRecord};
 
 use crate::granted::Granted;
 use crate::state::UserState;
@@ -19,7 +19,8 @@ use rs_scope::{Method, Token, reaches};
 use std::alloc::Global;
 
 impl<T: Tree> UserState<T> {
-    /// The state of the rows, read once from the first to the last, under a quota in bytes.
+    /// The state of the rows, read once from the first to the last, as many at a time as the keeper reads at once, under a
+    /// quota in bytes.
     ///
     /// It stands for the history that the rows spell, whose entries have `who` 0; what the quota is plays no part. The
     /// first row that spells no record is `BadRow`, with the place of its fault; the first whose record no request adds
@@ -43,19 +44,39 @@ impl<T: Tree> UserState<T> {
         ensures cause { HasCause (K.faults keeper.old) (K.faults keeper.new) OpenFault.KeeperFailed result }
     {
         let mut state = UserState::new(alloc, quota)?;
-        let mut row = Vec::new(alloc);
-        for index in 0..keeper.len() {
-            match keeper.read(index, &mut row) {
+        let total = keeper.len();
+        let mut run = Vec::new(alloc);
+        let mut index = 0;
+        while index < total {
+            match keeper.read_run(index, &mut run) {
                 Ok(()) => {}
                 Err(KeepFault::Failed) => return Err(OpenFault::KeeperFailed),
                 Err(KeepFault::NoMemory) => return Err(OpenFault::NoMemory),
             }
-            match state.take_row(index, row.as_slice()) {
+            match state.take_run(index, run.as_slice()) {
+                Ok(()) => {}
+                Err(fault) => return Err(fault),
+            }
+            index += run.len() as u64;
+        }
+        Ok(state)
+    }
+
+    // Takes the records that a run of rows spells, one after another. The first row has the index.
+    fn take_run(&mut self, index: u64, run: &[Vec<u8>]) -> Result<(), OpenFault>
+        requires stands { (h : History) × StandsFor T.stands self.old h }
+        requires fits { index + length run.now < 2 ^ 64 }
+        ensures taken { (h : History) → StandsFor T.stands self.old h → TakesRun T.stands self.new result (map (λ row. row.items) run.now) index h }
+        ensures counted { OnOk result (self.new.rows ≡ self.old.rows + length run.now) }
+        ensures quota { self.new.quota ≡ self.old.quota }
+    {
+        for place in 0..run.len() {
+            match self.take_row(index + place as u64, run[place].as_slice()) {
                 Ok(()) => {}
                 Err(fault) => return Err(fault),
             }
         }
-        Ok(state)
+        Ok(())
     }
 
     // Takes the record that a row spells, as one that stood there before.

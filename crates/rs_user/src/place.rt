@@ -1,35 +1,24 @@
 //! What stands at the path, and conditions on it: steps 4 to 9.
 
-ghost use Rattle.std.specs.Prelude.{◌≡◌, true, false, None, IfOk, IfSome, is_some, if◌then◌else◌};
+ghost use Rattle.std.specs.Prelude.{◌≡◌, true, false, None, IfOk, IfSome, is_none};
 ghost use Rattle.rs_rules.specs.Contents.{Contents};
-ghost use Rattle.rs_rules.specs.Documents.{doc_in};
 ghost use Rattle.rs_rules.specs.Clashes.{clash_in};
 ghost use Rattle.rs_rules.specs.Snapshots.{Snapshot};
-ghost use Rattle.rs_rules.specs.Answers.{first_of, clash_reply, write_steps, condition_steps, place_steps, is_put, record_of_call};
+ghost use Rattle.rs_rules.specs.Answers.{first_of, clash_reply, write_steps, condition_steps, is_present, path_version, is_put, record_of_call};
+ghost use Rattle.rs_user.specs.Sights.{IsSight};
 
 use crate::conditions::{excludes, meets};
 use crate::fronts::clash_at;
-use rs_path::{NoMemory, Path};
+use crate::sight::Sight;
+use rs_path::NoMemory;
 use rs_rules::{Call, Reply, Tree};
 use rs_scope::Method;
 
-/// The reply to a request for what stands at its path, or for its conditions; None where it goes on.
-pub(crate) fn refused_place<T: Tree>(tree: &T, call: &Call) -> Result<Option<Reply>, NoMemory>
-    requires stands { (w : Contents) × T.stands tree.now w }
-    ensures place { (s : Snapshot) → T.stands tree.now s.contents → IfOk result (λ reply. reply ≡ first_of (place_steps s call.now)) }
-    ensures plain { IfOk result (λ reply. IfSome reply (λ one. record_of_call call.now one ≡ None)) }
-{
-    if let Some(reply) = refused_write(tree, call)? {
-        return Ok(Some(reply));
-    }
-    let there = is_there(tree, &call.path);
-    Ok(refused_condition(call, there, tree.version(&call.path)))
-}
-
-// Steps 4 and 5, which are of writes alone.
-fn refused_write<T: Tree>(tree: &T, call: &Call) -> Result<Option<Reply>, NoMemory>
+/// The reply to a write that has no place at its path, or None where it has, and where nothing is written: steps 4 and 5.
+pub(crate) fn refused_write<T: Tree>(tree: &T, call: &Call) -> Result<Option<Reply>, NoMemory>
     requires stands { (w : Contents) × T.stands tree.now w }
     ensures write { (s : Snapshot) → T.stands tree.now s.contents → IfOk result (λ reply. reply ≡ first_of (write_steps s call.now)) }
+    ensures document { IfOk result (λ reply. is_none reply ≡ true → is_put call.now.method ≡ true → call.now.path.folder ≡ false) }
     ensures plain { IfOk result (λ reply. IfSome reply (λ one. record_of_call call.now one ≡ None)) }
 {
     if call.method.is_reading() {
@@ -61,15 +50,17 @@ fn refused_clash<T: Tree>(tree: &T, call: &Call) -> Result<Option<Reply>, NoMemo
     }
 }
 
-/// Whether the path is a folder, or a document is there.
-pub(crate) fn is_there<T: Tree>(tree: &T, path: &Path) -> bool
-    ensures there { (w : Contents) → T.stands tree.now w → result ≡ (if path.now.folder then true else is_some (doc_in path.now w.docs)) }
+/// The reply to a request whose conditions what stands at its path doesn't meet, or None where it does: steps 6 to 9.
+pub(crate) fn refused_condition(call: &Call, sight: Sight<'_>) -> Option<Reply>
+    ensures condition { (s : Snapshot) → IsSight sight.entry s.contents call.now.path
+        → result ≡ first_of (condition_steps call.now (is_present s call.now) (path_version s call.now)) }
+    ensures plain { IfSome result (λ one. record_of_call call.now one ≡ None) }
 {
-    path.is_folder() || tree.find(path).is_some()
+    refused_by(call, sight.is_there(), sight.version())
 }
 
-// Steps 6 to 9.
-fn refused_condition(call: &Call, there: bool, version: u64) -> Option<Reply>
+// The reply where the conditions aren't met of what is there or not and has the version.
+fn refused_by(call: &Call, there: bool, version: u64) -> Option<Reply>
     ensures condition { result ≡ first_of (condition_steps call.now there version) }
     ensures plain { IfSome result (λ one. record_of_call call.now one ≡ None) }
 {

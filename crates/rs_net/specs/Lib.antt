@@ -1,0 +1,2 @@
+pub mod AcceptErrors
+pub mod NetListeners

@@ -1,0 +1,15 @@
+//! The network and the system's random bytes, as the outside of the server: a socket that listens, the two ends of a connection,
+//! and an entropy.
+#![tactic(auto)]
+
+mod accept_error;
+mod connection;
+mod entropy;
+mod net_listener;
+
+pub use accept_error::AcceptError;
+pub use connection::{TcpSink, TcpSource, two_ends};
+pub use entropy::OsEntropy;
+pub use net_listener::{
+    DEFAULT_WAIT_SECONDS, MOST_TRIES, NetListener, PAUSE_MILLISECONDS, next_stream,
+};
