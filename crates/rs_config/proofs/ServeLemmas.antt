@@ -1,5 +1,5 @@
 -- The command `serve` has a text for each of its options.
-use Rattle.std.proofs.Common.{◌++◌, ◌&&◌, ◌≡◌, ◌⊎◌, ◌∙◌, ◌<◌, ◌≤◌, ap, ℕ, Bool, true, false, not, List, [], ◌∷◌, zero, suc, length, map, is_some, Option, Some, None, codes, pos, ◌+◌, refl, tt, Err, sym, subst, inl, inr, arith}
+use Rattle.std.proofs.Common.{◌++◌, ◌&&◌, ◌≡◌, ◌⊎◌, ◌∙◌, ◌<◌, ◌≤◌, ap, ℕ, Bool, true, false, not, List, [], ◌∷◌, zero, suc, length, map, is_some, Option, Some, None, codes, pos, ◌+◌, refl, Err, sym, subst, inl, inr, arith}
 use Rattle.std.specs.List.{All, slice_index_or, slice_index}
 use Rattle.std.specs.Str.{bytes_eq}
 use Rattle.std.proofs.lemmas.List.{length-map}
@@ -65,10 +65,15 @@ free_facts a simple free =
       delimiter = none_of _ v.0;
     }
 
+len : {X : Type 0} (xs ys : List X) → xs ≡ ys → length xs ≡ length ys
+len xs ys e = ap length e
+
+first_byte : (xs ys : List ℕ) → xs ≡ ys → slice_index_or xs 0 0 ≡ slice_index_or ys 0 0
+first_byte xs ys e = ap (λ (t : List ℕ). slice_index_or t 0 0) e
+
 some_defaults : {X Y : Type 0} (f : X → Y) (xs : List X) (y : Y) → map f xs ≡ y ∷ [] → 0 < length xs
-some_defaults {X} {Y} f [] y e =
-    let bad : 0 ≡ 1 = ap (λ (l : List Y). length l) e in
-    absurd (omega arith)
+some_defaults f [] y e =
+    absurd (omega (arith, len (map f []) (y ∷ []) e))
 some_defaults f (x ∷ xs) y e = omega arith
 
 one_value : (range : Option ValueRange) → range ≡ None → 1 ≤ (unwrap_or_range range).start_inclusive
@@ -78,34 +83,28 @@ one_value range none = subst (λ (r : Option ValueRange). 1 ≤ (unwrap_or_range
 
 two_rules : (xs : List Arg) (r s : Rule) → map rule_of xs ≡ r ∷ s ∷ [] → (a : Arg) × (b : Arg) × (xs ≡ a ∷ b ∷ []) × (rule_of a ≡ r) × (rule_of b ≡ s)
 two_rules [] r s e =
-    let bad : 0 ≡ 2 = ap (λ (l : List Rule). length l) e in
-    absurd (omega arith)
+    absurd (omega (arith, len (map rule_of []) (r ∷ s ∷ []) e))
 two_rules (a ∷ []) r s e =
-    let bad : 1 ≡ 2 = ap (λ (l : List Rule). length l) e in
-    absurd (omega arith)
+    absurd (omega (arith, len (map rule_of (a ∷ [])) (r ∷ s ∷ []) e))
 two_rules (a ∷ b ∷ []) r s e = (a, b, refl, ap (λ l. slice_index_or l 0 r) e, ap (λ l. slice_index_or l 1 r) e)
 two_rules (a ∷ b ∷ c ∷ xs) r s e =
-    let bad : 3 + length xs ≡ 2 = length3 c xs ∙ ap (λ (l : List Rule). length l) e in
-    absurd (omega arith)
-  where
-    length3 : (c : Arg) (xs : List Arg) → 3 + length xs ≡ length (map rule_of (a ∷ b ∷ c ∷ xs))
-    length3 c xs = rw (length-map rule_of xs) refl
+    let bad : length (map rule_of (a ∷ b ∷ c ∷ xs)) ≡ 2 = len (map rule_of (a ∷ b ∷ c ∷ xs)) (r ∷ s ∷ []) e in
+    let long : length (map rule_of (a ∷ b ∷ c ∷ xs)) ≡ length (a ∷ b ∷ c ∷ xs) = length-map (a ∷ b ∷ c ∷ xs) rule_of in
+    absurd (omega (arith, bad, long))
 
 first_id : (a b e : Arg) → a.id.now ≡ codes "config" → b.id.now ≡ codes "workers" → (j : ℕ) → j < 2
     → bytes_eq (slice_index_or (a ∷ b ∷ []) j e).id.now a.id.now ≡ true → j ≡ 0
 first_id a b e named-a named-b zero low same = refl
 first_id a b e named-a named-b (suc zero) low same =
     let bad : codes "workers" ≡ codes "config" = sym named-b ∙ ((bytes_eq-Decides _ _).0 same ∙ named-a) in
-    let clash : 119 ≡ 99 = ap (λ (t : List ℕ). slice_index_or t 0 0) bad in
-    absurd (omega arith)
+    absurd (omega (arith, first_byte (codes "workers") (codes "config") bad))
 first_id a b e named-a named-b (suc (suc j)) low same = absurd (omega arith)
 
 second_id : (a b e : Arg) → a.id.now ≡ codes "config" → b.id.now ≡ codes "workers" → (j : ℕ) → j < 2
     → bytes_eq (slice_index_or (a ∷ b ∷ []) j e).id.now b.id.now ≡ true → j ≡ 1
 second_id a b e named-a named-b zero low same =
     let bad : codes "config" ≡ codes "workers" = sym named-a ∙ ((bytes_eq-Decides _ _).0 same ∙ named-b) in
-    let clash : 99 ≡ 119 = ap (λ (t : List ℕ). slice_index_or t 0 0) bad in
-    absurd (omega arith)
+    absurd (omega (arith, first_byte (codes "config") (codes "workers") bad))
 second_id a b e named-a named-b (suc zero) low same = refl
 second_id a b e named-a named-b (suc (suc j)) low same = absurd (omega arith)
 
@@ -191,9 +190,7 @@ words_refused words k passes kinds = go (serve_fault k) refl
     refuses f is other =
         let ample : k ≡ kind.OutOfMemory → ⊥ = λ memory. other (sym is ∙ ap serve_fault memory) in (
           not_true (takes serve_app words) (λ taken. ample (passes taken)),
-          k,
-          elim kinds [ inl memory ↦ absurd (ample memory) | inr among ↦ among ],
-          is,
+          (k, elim kinds [ inl memory ↦ absurd (ample memory) | inr among ↦ among ], is),
         )
 
     go : (f : ServeFault) → serve_fault k ≡ f → ReadsServe words (Err f)

@@ -1,5 +1,5 @@
 -- Settings read one after another: all of them, or the first that is refused.
-use Rattle.std.proofs.Common.{◌≡◌, ◌×◌, ◌∙◌, ap, subst, ℕ, List, [], Option, Some, None, Ok, Err, Result, refl, sym, tt, map}
+use Rattle.std.proofs.Common.{◌≡◌, ◌∙◌, ap, subst, ℕ, List, [], Option, Some, None, Ok, Err, Result, refl, sym, map}
 use Rattle.toml.specs.Data.{Data, Members}
 use Rattle.rs_exchange.specs.declared.account.Account.{Account}
 use Rattle.rs_config.specs.declared.serve_config.Room.{Room}

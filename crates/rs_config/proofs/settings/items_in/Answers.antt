@@ -6,5 +6,5 @@ use Rattle.rs_config.proofs.settings.items_in.Goals as goal
 
 pub returns-in-Some : goal.returns-in-Some
 returns-in-Some c = record {
-  items = ap Some (sym (listed_items (map view c.in-Some.values.now.items))) ∙ ap (option_map listed) c.in-Some.ensures;
+  items = rw c.as_slice.ensures.value (ap Some (sym (listed_items (map view c.in-Some.values.now.items))) ∙ ap (option_map listed) c.in-Some.ensures);
 }
