@@ -1,0 +1,7 @@
+mod AbreastLemmas
+pub mod Cited
+mod ClosingLemmas
+mod EntranceLemmas
+mod RoomLemmas
+mod SeatLemmas
+mod SplitLemmas

@@ -1,0 +1,9 @@
+pub mod Abreast
+pub mod Asks
+pub mod Closings
+pub mod Entrances
+pub mod Halls
+pub mod LaterSeats
+pub mod Limits
+pub mod Rooms
+pub mod Splits
