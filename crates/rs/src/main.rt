@@ -3,15 +3,14 @@
 #![tactic(auto)]
 
 mod ending;
-mod entropy;
 mod rows;
 mod running;
 mod words;
 
 use ending::{exit_code, report};
-use entropy::OsEntropy;
 use rows::PresentFolder;
 use rs_cli::{Note, Status};
+use rs_net::OsEntropy;
 use rs_path::NoMemory;
 use rs_stream::{HeldSink, StdSink, StdSource};
 use running::run_words;

@@ -4,8 +4,8 @@ use Rattle.std.specs.List.{list_any}
 use Rattle.rs_net.specs.declared.accept_error.AcceptError.{AcceptError}
 use Rattle.rs_net.specs.declared.accept_error.AcceptError.TheVariants.{Passing, Exhausted, Fatal}
 
--- about one connection, or a signal: EPERM (a firewall forbids it), EINTR, ENONET, EPROTO, ENOPROTOOPT, EOPNOTSUPP, ENETDOWN, ENETUNREACH,
--- ECONNABORTED, ECONNRESET, ETIMEDOUT, EHOSTDOWN, EHOSTUNREACH
+-- about one connection, or a signal: EPERM (a firewall forbids it), EINTR, ENONET, EPROTO, ENOPROTOOPT, EOPNOTSUPP,
+-- ENETDOWN, ENETUNREACH, ECONNABORTED, ECONNRESET, ETIMEDOUT, EHOSTDOWN, EHOSTUNREACH
 abbrev pub passing : List ℕ
 passing = 1 ∷ 4 ∷ 64 ∷ 71 ∷ 92 ∷ 95 ∷ 100 ∷ 101 ∷ 103 ∷ 104 ∷ 110 ∷ 112 ∷ 113 ∷ []
 

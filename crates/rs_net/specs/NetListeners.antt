@@ -1,8 +1,8 @@
 -- What is seen of a listener over a socket.
 use Rattle.std.specs.Prelude.{ℕ, Bool, true, false, nat_le, Option, None, Some, Result, Ok, Err}
 
--- how many connections it gave, how many it may give where that is bounded, how often it answered that none will come, and how many
--- calls failed
+-- how many connections it gave, how many it may give where that is bounded, how often it answered that none will come,
+-- and how many calls failed
 pub record NetState : Type 0 where
   pub given : ℕ
   pub most : Option ℕ
