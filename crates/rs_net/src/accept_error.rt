@@ -34,22 +34,39 @@ impl AcceptError {
 
 // The numbers of the errors, as errno.h of Linux has them on x86-64 and aarch64.
 const EPERM: u32 = 1;
+
 const EINTR: u32 = 4;
+
 const EAGAIN: u32 = 11;
+
 const ENOMEM: u32 = 12;
+
 const ENFILE: u32 = 23;
+
 const EMFILE: u32 = 24;
+
 const ENONET: u32 = 64;
+
 const EPROTO: u32 = 71;
+
 const ENOPROTOOPT: u32 = 92;
+
 const EOPNOTSUPP: u32 = 95;
+
 const ENETDOWN: u32 = 100;
+
 const ENETUNREACH: u32 = 101;
+
 const ECONNABORTED: u32 = 103;
+
 const ECONNRESET: u32 = 104;
+
 const ENOBUFS: u32 = 105;
+
 const ETIMEDOUT: u32 = 110;
+
 const EHOSTDOWN: u32 = 112;
+
 const EHOSTUNREACH: u32 = 113;
 
 // What the error with this number of the system says.

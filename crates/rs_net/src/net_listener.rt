@@ -114,8 +114,8 @@ impl<'a, C: Clock> NetListener<'a, C> {
     }
 }
 
-/// Waits for the next connection of a socket. None where the socket can't be used, or where so often in a row (`MOST_TRIES`) the
-/// system had no descriptor or no memory to spare.
+/// Waits for the next connection of a socket. None where the socket can't be used, or where the system had no descriptor or no
+/// memory to spare so often in a row (`MOST_TRIES`).
 pub fn next_stream<C: Clock, L: OpenListener>(clock: &C, listener: &L) -> Option<L::Stream> {
     let mut tries = 0;
     for _ in 0..u64::MAX {

@@ -82,7 +82,11 @@ fn try_listener(first: i32, times: u32, between: i32) -> (bool, u32, u32) {
 fn what_passes_is_passed_over(rt: HostRuntime) -> Result<(), Fail> {
     // EPERM, EINTR, EPROTO, ENETDOWN, ECONNABORTED, EHOSTUNREACH.
     for error in [1, 4, 71, 100, 103, 113] {
-        assert_eq!(rt; try_listener(error, 5_000, error), (true, 10_002, 0), "at {error}");
+        assert_eq!(rt;
+            try_listener(error, 5_000, error),
+            (true, 10_002, 0),
+            "at {error}"
+        );
     }
     Ok(())
 }
@@ -91,10 +95,22 @@ fn what_passes_is_passed_over(rt: HostRuntime) -> Result<(), Fail> {
 fn an_exhausted_system_is_waited_for(rt: HostRuntime) -> Result<(), Fail> {
     // EAGAIN, ENOMEM, ENFILE, EMFILE, ENOBUFS.
     for error in [11, 12, 23, 24, 105] {
-        assert_eq!(rt; try_listener(error, 10, error), (true, 22, 21), "at {error}");
+        assert_eq!(rt;
+            try_listener(error, 10, error),
+            (true, 22, 21),
+            "at {error}"
+        );
         // Tries are counted in a row: one that passes begins them anew.
-        assert_eq!(rt; try_listener(error, MOST_TRIES, 103), (true, 1_202, 1_200), "at {error}");
-        assert_eq!(rt; try_listener(error, MOST_TRIES, error), (false, 601, 600), "at {error}");
+        assert_eq!(rt;
+            try_listener(error, MOST_TRIES, 103),
+            (true, 1_202, 1_200),
+            "at {error}"
+        );
+        assert_eq!(rt;
+            try_listener(error, MOST_TRIES, error),
+            (false, 601, 600),
+            "at {error}"
+        );
     }
     Ok(())
 }

@@ -1,17 +1,14 @@
 //! Connections over the loopback address, both ends in this process.
 
-ghost use Rattle.std.specs.Prelude.{◌<◌};
-ghost use Rattle.std.specs.Duration.{as_nanos};
-
 use rs_face::{Listener, Sink, SinkFault, Source, SourceFault, write_all};
 use rs_net::{NetListener, TcpSink, TcpSource, two_ends};
-use std::alloc::Global;
-use std::io;
+use std::alloc::{AllocError, Global};
 use std::io::{ErrorKind, Read, Write};
 use std::net::{Ipv4Addr, Net, Shutdown, SocketAddr, TcpListener, TcpStream};
 use std::test::Fail;
-use std::thread;
+use std::thread::Threads;
 use std::time::Duration;
+use std::{io, thread};
 
 /// How long a read or a write may wait where it is to succeed.
 const AMPLE_SECONDS: u64 = 20;
@@ -29,7 +26,11 @@ where
 }
 
 /// A client, and the two ends of its connection.
-fn connect<N>(net: &N, alloc: Global, limit: Duration) -> io::Result<(TcpStream, TcpSource, TcpSink)>
+fn connect<N>(
+    net: &N,
+    alloc: Global,
+    limit: Duration,
+) -> io::Result<(TcpStream, TcpSource, TcpSink)>
 where
     N: Net<Listener = TcpListener, Stream = TcpStream>,
 {
@@ -42,17 +43,31 @@ where
     }
 }
 
-/// Reads until the room is full or the input ends, and says how many bytes came.
+/// Reads byte by byte until the room is full or the input ends, and says how many came.
 fn fill(source: &mut TcpSource, room: &mut [u8]) -> Result<usize, SourceFault> {
-    let mut filled = 0;
-    for _ in 0..room.len() {
-        let count = source.read(&mut room[filled..])?;
-        if count == 0 {
-            break;
+    let full = room.len();
+    let mut one = [0; 1];
+    for (place, byte) in room.iter_mut().enumerate() {
+        if source.read(&mut one)? == 0 {
+            return Ok(place);
         }
-        filled += count;
+        *byte = one[0];
     }
-    Ok(filled)
+    Ok(full)
+}
+
+/// So many bytes of 0.
+fn zeros(alloc: Global, len: usize) -> Result<Vec<u8>, AllocError> {
+    vec![in alloc; 0; len]
+}
+
+/// So many bytes, of which no two neighbours are the same.
+fn numbered(alloc: Global, len: u32) -> Result<Vec<u8>, AllocError> {
+    let mut bytes = Vec::new(alloc);
+    for place in 0..len {
+        bytes.push((place % 251) as u8)?;
+    }
+    Ok(bytes)
 }
 
 #[test]
@@ -118,7 +133,7 @@ fn a_client_that_takes_nothing_is_a_failed_write(rt: HostRuntime) -> Result<(), 
         rt.alloc(),
         Duration::from_millis(SHORT_MILLISECONDS),
     )?;
-    let piece = vec![in rt.alloc(); 0; 1_048_576]?;
+    let piece = zeros(rt.alloc(), 1_048_576)?;
     let mut end = Ok(());
     for _ in 0..1_000 {
         end = write_all(&mut sink, piece.as_slice());
@@ -149,24 +164,17 @@ fn a_client_that_resets_is_a_failed_read(rt: HostRuntime) -> Result<(), Fail> {
 
 #[test]
 fn a_large_piece_passes_in_order(rt: HostRuntime) -> Result<(), Fail> {
-    let (client, _source, mut sink) = connect(
-        &rt,
-        rt.alloc(),
-        Duration::from_secs(AMPLE_SECONDS),
-    )?;
-    let mut piece = Vec::with_capacity(rt.alloc(), 20_480)?;
-    for place in 0..20_480u32 {
-        piece.push((place % 251) as u8)?;
-    }
-    let mut room = vec![in rt.alloc(); 0; 20_484]?;
+    let (client, _source, mut sink) = connect(&rt, rt.alloc(), Duration::from_secs(AMPLE_SECONDS))?;
+    let piece = numbered(rt.alloc(), 20_480)?;
+    let mut room = zeros(rt.alloc(), 20_484)?;
     let (sent, got) = thread::join(
         &rt,
         || -> bool { send_behind_a_head(&mut sink, piece.as_slice()) },
         || -> bool { read_whole(&client, room.as_mut_slice()) },
     );
     assert!(rt; sent && got);
-    assert_eq!(rt; &room.as_slice()[..4], b"head".as_slice());
-    assert!(rt; &room.as_slice()[4..] == piece.as_slice());
+    assert!(rt; room.as_slice().starts_with(b"head"));
+    assert!(rt; room.as_slice().ends_with(piece.as_slice()));
     Ok(())
 }
 
@@ -205,5 +213,53 @@ fn none_come_after_the_most(rt: HostRuntime) -> Result<(), Fail> {
     for _ in 0..2 {
         assert!(rt; matches!(net.accept(), Ok(None)));
     }
+    Ok(())
+}
+
+/// A worker, and the byte that it got.
+#[derive(Drop)]
+struct Worker<N: Listener + Drop> {
+    net: N,
+    got: u8,
+}
+
+/// Takes a connection, reads one byte of it, and gives it back.
+fn work<N: Listener + Drop>(worker: &mut Worker<N>) {
+    if let Ok(Some((mut source, sink))) = worker.net.accept() {
+        let mut room = [0; 1];
+        if source.read(&mut room) == Ok(1) {
+            worker.got = room[0];
+        }
+        worker.net.end(source, sink, false);
+    }
+}
+
+/// Each worker works in a thread of its own.
+fn work_all<N: Listener + Send + Drop, R: Threads + Sync>(rt: &R, workers: &mut [Worker<N>]) {
+    let threads = workers.len();
+    if threads > 0 {
+        thread::for_each_mut(rt, workers, threads, &|_, worker| work(worker));
+    }
+}
+
+#[test]
+fn workers_share_a_socket(rt: HostRuntime) -> Result<(), Fail> {
+    let (listener, address) = listen(&rt)?;
+    let mut workers = Vec::with_capacity(rt.alloc(), 2)?;
+    for _ in 0..2 {
+        let limit = Duration::from_secs(AMPLE_SECONDS);
+        let net = NetListener::giving(rt.alloc(), &rt, &listener, limit, 1);
+        workers.push(Worker { net, got: 0 })?;
+    }
+    let mut one = TcpStream::connect(&rt, address)?;
+    let mut other = TcpStream::connect(&rt, address)?;
+    one.write_all(b"a")?;
+    other.write_all(b"b")?;
+    work_all(&rt, workers.as_mut_slice());
+    let mut got = 0;
+    for worker in workers.iter() {
+        got ^= worker.got;
+    }
+    assert_eq!(rt; got, b'a' ^ b'b');
     Ok(())
 }
