@@ -12,11 +12,7 @@ use std::alloc::Global;
 use toml::{Table, Value};
 
 /// The names of the keys that nobody asks for: those of the table, and then those of each user.
-pub fn unknown_keys(
-    alloc: Global,
-    table: &Table,
-    values: &[Value],
-) -> Result<Vec<Bytes>, NoMemory>
+pub fn unknown_keys(alloc: Global, table: &Table, values: &[Value]) -> Result<Vec<Bytes>, NoMemory>
     ensures unknown { IfOk result (λ names. names.items ≡ unknown_with (table_view table.now) (map view values.now)) }
 {
     let mut names = Vec::new(alloc);

@@ -89,7 +89,9 @@ fn name_of<'a>(accounts: &Accounts, table: &'a Table) -> Result<&'a str, ConfigK
     ensures user { IfOk result (λ name. is_user name.now ≡ true) }
 {
     match text_with(table, ConfigKey::Name) {
-        Some(name) if is_user(name.as_bytes()) && accounts.find(name.as_bytes()).is_none() => Ok(name),
+        Some(name) if is_user(name.as_bytes()) && accounts.find(name.as_bytes()).is_none() => Ok(
+            name,
+        ),
         _ => Err(ConfigKey::Name),
     }
 }

@@ -87,8 +87,18 @@ fn file_in(alloc: Global, row: &str) -> Result<String, Fail> {
     Ok(text.replace(alloc, "¶", "\n")?)
 }
 
-fn put_user(alloc: Global, config: &ServeConfig, user: usize, out: &mut Vec<u8>) -> Result<(), Fail> {
-    let account = config.front.accounts.as_slice().get(user).ok_or("no account")?;
+fn put_user(
+    alloc: Global,
+    config: &ServeConfig,
+    user: usize,
+    out: &mut Vec<u8>,
+) -> Result<(), Fail> {
+    let account = config
+        .front
+        .accounts
+        .as_slice()
+        .get(user)
+        .ok_or("no account")?;
     let room = config.rooms.as_slice().get(user).ok_or("no room")?;
     let quota = room.quota;
     out.extend_from_slice(b" / ")?;
