@@ -10,7 +10,7 @@ use Rattle.rs_config.specs.declared.config_fault.ConfigFault.{ConfigFault}
 use Rattle.rs_config.specs.declared.config_fault.ConfigFault.TheVariants as fault
 use Rattle.rs_config.specs.TomlValues.{RefusesKey, and_read}
 use Rattle.rs_config.specs.UserSettings.{name_setting, file_setting, salt_setting, secret_setting, quota_setting, user_setting_in, user_with}
-use Rattle.rs_config.specs.ServeSettings.{Users, Settings, base_setting, listen_setting, wait_setting, user_values, users_from, settings_in, settings_with}
+use Rattle.rs_config.specs.ServeSettings.{ConfiguredUsers, Settings, base_setting, listen_setting, wait_setting, user_values, users_from, settings_in, settings_with}
 use Rattle.rs_config.specs.ConfigReadings.{ConfiguresFrom, ReadsConfig, IsTableOf, HasSettings, unknown_with}
 
 and_ok : {X Y : Type 0} (r : Result X ConfigKey) (x : X) (next : X → Result Y ConfigKey) → r ≡ Ok x → and_read r next ≡ next x
@@ -43,7 +43,7 @@ module _ (table : Members) (base : List ℕ) (b : base_setting table ≡ Ok base
         users_next f h =
             subst (RefusesKey f) (sym (and_ok _ base _ b ∙ (and_ok _ listen _ l ∙ (and_ok _ wait _ w ∙ and_ok _ values _ v)))) (and_refused f _ _ h)
 
-        pub all_read : (users : Users) → users_from [] [] values ≡ Ok users → settings_in table ≡ Ok (settings_with base listen wait users)
+        pub all_read : (users : ConfiguredUsers) → users_from [] [] values ≡ Ok users → settings_in table ≡ Ok (settings_with base listen wait users)
         all_read users u = and_ok _ base _ b ∙ (and_ok _ listen _ l ∙ (and_ok _ wait _ w ∙ (and_ok _ values _ v ∙ and_ok _ users _ u)))
 
 -- ---- the file

@@ -19,10 +19,10 @@ use Rattle.rs_config.specs.declared.config_fault.ConfigFault.TheVariants as faul
 use Rattle.rs_config.specs.ConfigKeys.{is_known}
 use Rattle.rs_config.specs.TomlValues.{RefusesKey}
 use Rattle.rs_config.specs.UserSettings.{user_setting}
-use Rattle.rs_config.specs.ServeSettings.{Users, listed, users_from}
+use Rattle.rs_config.specs.ServeSettings.{ConfiguredUsers, list_of_items, users_from}
 use Rattle.rs_config.specs.ConfigReadings.{unknown_in, member_names, unknown_of_user}
 
-pub listed_items : (values : List Data) → listed (items_of values) ≡ values
+pub listed_items : (values : List Data) → list_of_items (items_of values) ≡ values
 listed_items [] = refl
 listed_items (value ∷ values) = ap (λ rest. value ∷ rest) (listed_items values)
 
@@ -62,7 +62,7 @@ left_more : (values : List Value) (i : ℕ) (value : Value) → i < length value
 left_more values i value low at = ap (map view) (drop_more values i value low) ∙ ap (λ (v : Value). view v ∷ map view (drop (i + 1) values)) (sym at)
 
 pub loop_read : (values : List Value) (i : ℕ) (value : Value) → i < length values → value ≡ get_or values i value
-    → (accounts : List Account) (rooms : List Room) (user : UserSettings) (all : Result Users ConfigKey)
+    → (accounts : List Account) (rooms : List Room) (user : UserSettings) (all : Result ConfiguredUsers ConfigKey)
     → user_setting accounts rooms (view value) ≡ Ok user → users_from accounts rooms (map view (drop i values)) ≡ all
     → users_from (accounts ++ user.account ∷ []) (rooms ++ user.room ∷ []) (map view (drop (i + 1) values)) ≡ all
 loop_read values i value low at accounts rooms user all read before =
@@ -70,7 +70,7 @@ loop_read values i value low at accounts rooms user all read before =
     ∙ (ap (users_from accounts rooms) (sym (left_more values i value low at)) ∙ before)
 
 pub loop_refused : (values : List Value) (i : ℕ) (value : Value) → i < length values → value ≡ get_or values i value
-    → (accounts : List Account) (rooms : List Room) (f : ConfigFault) (all : Result Users ConfigKey)
+    → (accounts : List Account) (rooms : List Room) (f : ConfigFault) (all : Result ConfiguredUsers ConfigKey)
     → RefusesKey f (user_setting accounts rooms (view value)) → users_from accounts rooms (map view (drop i values)) ≡ all
     → RefusesKey f all
 loop_refused values i value low at accounts rooms f all refused before =

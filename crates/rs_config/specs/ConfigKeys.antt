@@ -6,16 +6,16 @@ use Rattle.rs_config.specs.declared.config_key.ConfigKey.{ConfigKey}
 use Rattle.rs_config.specs.declared.config_key.ConfigKey.TheVariants as key
 
 -- the key as it stands in the file
-abbrev pub key_name : ConfigKey → List ℕ
-key_name key.Base = codes "base"
-key_name key.Listen = codes "listen"
-key_name key.Wait = codes "wait"
-key_name key.User = codes "user"
-key_name key.Name = codes "name"
-key_name key.File = codes "file"
-key_name key.Salt = codes "salt"
-key_name key.Secret = codes "secret"
-key_name key.Quota = codes "quota"
+abbrev pub config_key_text : ConfigKey → List ℕ
+config_key_text key.Base = codes "base"
+config_key_text key.Listen = codes "listen"
+config_key_text key.Wait = codes "wait"
+config_key_text key.User = codes "user"
+config_key_text key.Name = codes "name"
+config_key_text key.File = codes "file"
+config_key_text key.Salt = codes "salt"
+config_key_text key.Secret = codes "secret"
+config_key_text key.Quota = codes "quota"
 
 -- the keys at the top of the file, in the order in which they are looked at
 abbrev pub top_keys : List ConfigKey
@@ -27,4 +27,4 @@ user_keys = key.Name ∷ key.File ∷ key.Salt ∷ key.Secret ∷ key.Quota ∷ 
 
 -- the text is one of these keys
 abbrev pub is_known : List ConfigKey → List ℕ → Bool
-is_known known text = list_any (λ k. bytes_eq (key_name k) text) known
+is_known known text = list_any (λ k. bytes_eq (config_key_text k) text) known

@@ -7,7 +7,7 @@ use Rattle.rs_config.specs.declared.serve_config.Room.{Room}
 use Rattle.rs_config.specs.declared.serve_config.ServeConfig.{ServeConfig}
 use Rattle.rs_config.specs.declared.config_key.ConfigKey.{ConfigKey}
 use Rattle.rs_config.specs.declared.config_key.ConfigKey.TheVariants as key
-use Rattle.rs_config.specs.ConfigKeys.{key_name}
+use Rattle.rs_config.specs.ConfigKeys.{config_key_text}
 use Rattle.rs_config.specs.TomlValues.{text_with, number_of, tested, needed, usual_or, and_read}
 use Rattle.rs_config.specs.Origins.{is_origin, host_of}
 use Rattle.rs_config.specs.UserSettings.{is_filled, user_setting}
@@ -28,16 +28,16 @@ abbrev pub wait_in : Data → Option ℕ
 wait_in value = option_and_then (tested is_wait) (number_of value)
 
 abbrev pub wait_setting : Members → Result ℕ ConfigKey
-wait_setting table = usual_or 10 wait_in key.Wait (get_member (key_name key.Wait) table)
+wait_setting table = usual_or 10 wait_in key.Wait (get_member (config_key_text key.Wait) table)
 
 -- an array's items, as a list
-abbrev pub listed : Items → List Data
-listed no_items = []
-listed (item value rest) = value ∷ listed rest
+abbrev pub list_of_items : Items → List Data
+list_of_items no_items = []
+list_of_items (item value rest) = value ∷ list_of_items rest
 
 -- the array of the users
 abbrev pub user_array : Members → Option (List Data)
-user_array table = option_map listed (option_and_then as_array (get_member (key_name key.User) table))
+user_array table = option_map list_of_items (option_and_then as_array (get_member (config_key_text key.User) table))
 
 -- 1 to 1,000 users
 abbrev pub is_user_count : List Data → Bool
@@ -47,12 +47,12 @@ abbrev pub user_values : Members → Result (List Data) ConfigKey
 user_values table = needed is_user_count key.User (user_array table)
 
 -- the accounts and the rooms of users
-pub record Users : Type 0 where
+pub record ConfiguredUsers : Type 0 where
   pub accounts : List Account
   pub rooms : List Room
 
 -- these users, and those of the values, each beside those before: the first key that is wrong is refused
-abbrev pub users_from : List Account → List Room → List Data → Result Users ConfigKey
+abbrev pub users_from : List Account → List Room → List Data → Result ConfiguredUsers ConfigKey
 users_from accounts rooms [] = Ok (record { accounts = accounts; rooms = rooms })
 users_from accounts rooms (value ∷ rest) =
     and_read (user_setting accounts rooms value) (λ user. users_from (accounts ++ user.account ∷ []) (rooms ++ user.room ∷ []) rest)
@@ -62,9 +62,9 @@ pub record Settings : Type 0 where
   pub base : List ℕ
   pub listen : List ℕ
   pub wait : ℕ
-  pub users : Users
+  pub users : ConfiguredUsers
 
-abbrev pub settings_with : (base listen : List ℕ) → ℕ → Users → Settings
+abbrev pub settings_with : (base listen : List ℕ) → ℕ → ConfiguredUsers → Settings
 settings_with base listen wait users = record { base = base; listen = listen; wait = wait; users = users }
 
 -- the settings of a file: the first key that is wrong is refused

@@ -4,11 +4,11 @@ use Rattle.toml.specs.Data.{Data, Members, as_str, as_integer, get_member}
 use Rattle.rs_config.specs.declared.config_key.ConfigKey.{ConfigKey}
 use Rattle.rs_config.specs.declared.config_fault.ConfigFault.{ConfigFault}
 use Rattle.rs_config.specs.declared.config_fault.ConfigFault.TheVariants as fault
-use Rattle.rs_config.specs.ConfigKeys.{key_name}
+use Rattle.rs_config.specs.ConfigKeys.{config_key_text}
 
 -- the text at a key
 abbrev pub text_with : ConfigKey → Members → Option (List ℕ)
-text_with key table = option_and_then as_str (get_member (key_name key) table)
+text_with key table = option_and_then as_str (get_member (config_key_text key) table)
 
 -- a whole number that isn't negative
 abbrev pub natural : ℤ → Option ℕ

@@ -10,7 +10,7 @@ use Rattle.rs_config.specs.declared.serve_config.Room.{Room}
 use Rattle.rs_config.specs.declared.serve_config.UserSettings.{UserSettings}
 use Rattle.rs_config.specs.declared.config_key.ConfigKey.{ConfigKey}
 use Rattle.rs_config.specs.declared.config_key.ConfigKey.TheVariants as key
-use Rattle.rs_config.specs.ConfigKeys.{key_name}
+use Rattle.rs_config.specs.ConfigKeys.{config_key_text}
 use Rattle.rs_config.specs.Secrets.{secret_reading}
 use Rattle.rs_config.specs.TomlValues.{text_with, number_of, needed, usual_or, and_read}
 
@@ -38,21 +38,21 @@ file_setting rooms table = needed (is_new_file rooms) key.File (text_with key.Fi
 
 -- a text, by default empty
 abbrev pub salt_setting : Members → Result (List ℕ) ConfigKey
-salt_setting table = usual_or [] as_str key.Salt (get_member (key_name key.Salt) table)
+salt_setting table = usual_or [] as_str key.Salt (get_member (config_key_text key.Salt) table)
 
 -- a digest, by default none
 abbrev pub secret_in : Data → Option (List ℕ)
 secret_in value = option_and_then secret_reading (as_str value)
 
 abbrev pub secret_setting : Members → Result (Option (List ℕ)) ConfigKey
-secret_setting table = usual_or None (λ value. option_map Some (secret_in value)) key.Secret (get_member (key_name key.Secret) table)
+secret_setting table = usual_or None (λ value. option_map Some (secret_in value)) key.Secret (get_member (config_key_text key.Secret) table)
 
 -- a whole number of bytes that isn't negative, by default 1,073,741,824
 abbrev pub usual_quota : ℕ
 usual_quota = 1073741824
 
 abbrev pub quota_setting : Members → Result ℕ ConfigKey
-quota_setting table = usual_or usual_quota number_of key.Quota (get_member (key_name key.Quota) table)
+quota_setting table = usual_or usual_quota number_of key.Quota (get_member (config_key_text key.Quota) table)
 
 -- a user of these settings
 abbrev pub user_with : (name file salt : List ℕ) → Option (List ℕ) → ℕ → UserSettings

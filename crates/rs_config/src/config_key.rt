@@ -3,7 +3,7 @@
 ghost use Rattle.std.specs.Prelude.{◌≡◌};
 ghost use Rattle.std.specs.Str.{bytes_eq};
 ghost use Rattle.std.specs.List.{list_any};
-ghost use Rattle.rs_config.specs.ConfigKeys.{key_name, is_known};
+ghost use Rattle.rs_config.specs.ConfigKeys.{config_key_text, is_known};
 
 /// A key of the configuration file.
 #[derive(Debug, Clone, Copy, PartialEq, Eq)]
@@ -48,7 +48,7 @@ pub const USER_KEYS: [ConfigKey; 5] = [
 impl ConfigKey {
     /// The key as it stands in the file.
     pub fn text(self) -> &'static str
-        ensures text { result.now ≡ key_name self }
+        ensures text { result.now ≡ config_key_text self }
     {
         match self {
             ConfigKey::Base => "base",
@@ -72,7 +72,7 @@ pub(crate) fn is_known(known: &[ConfigKey], text: &str) -> bool
 }
 
 fn is_key(key: ConfigKey, text: &str) -> bool
-    ensures same { result ≡ bytes_eq (key_name key) text.now }
+    ensures same { result ≡ bytes_eq (config_key_text key) text.now }
 {
     key.text() == text
 }

@@ -4,7 +4,7 @@ ghost use Rattle.std.specs.Prelude.{◌≡◌, ◌≤◌, map, length, option_ma
 ghost use Rattle.toml.specs.Data.{as_array};
 ghost use Rattle.toml.specs.View.{view, table_view};
 ghost use Rattle.rs_config.specs.TomlValues.{GivesSetting, seen_as};
-ghost use Rattle.rs_config.specs.ServeSettings.{base_setting, listen_setting, wait_setting, wait_in, listed, user_array, user_values};
+ghost use Rattle.rs_config.specs.ServeSettings.{base_setting, listen_setting, wait_setting, wait_in, list_of_items, user_array, user_values};
 
 use crate::config_fault::ConfigFault;
 use crate::config_key::ConfigKey;
@@ -90,7 +90,7 @@ fn array_of_users(table: &Table) -> Option<&[Value]>
 }
 
 fn items_in(value: &Value) -> Option<&[Value]>
-    ensures items { option_map (λ values. map view values.now) result ≡ option_map listed (as_array (view value.now)) }
+    ensures items { option_map (λ values. map view values.now) result ≡ option_map list_of_items (as_array (view value.now)) }
 {
     match value.as_array() {
         Some(values) => Some(values.as_slice()),

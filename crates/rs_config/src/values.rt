@@ -3,7 +3,7 @@
 ghost use Rattle.std.specs.Prelude.{◌≡◌, option_map};
 ghost use Rattle.toml.specs.Data.{get_member, as_integer};
 ghost use Rattle.toml.specs.View.{view, table_view};
-ghost use Rattle.rs_config.specs.ConfigKeys.{key_name};
+ghost use Rattle.rs_config.specs.ConfigKeys.{config_key_text};
 ghost use Rattle.rs_config.specs.TomlValues.{text_with, natural, number_of};
 
 use crate::config_key::ConfigKey;
@@ -11,7 +11,7 @@ use toml::{Table, Value};
 
 /// The value at the key, if there is one.
 pub fn value_at(table: &Table, key: ConfigKey) -> Option<&Value>
-    ensures value { option_map (λ value. view value.now) result ≡ get_member (key_name key) (table_view table.now) }
+    ensures value { option_map (λ value. view value.now) result ≡ get_member (config_key_text key) (table_view table.now) }
 {
     table.get(key.text())
 }

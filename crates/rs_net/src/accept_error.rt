@@ -1,7 +1,7 @@
 //! What an error of `accept` says of the listener.
 ghost use Rattle.std.specs.Prelude.{◌≡◌};
 ghost use Rattle.std.specs.IoError.{raw_os_error};
-ghost use Rattle.rs_net.specs.AcceptErrors.{meaning_of, meaning_in, is_among, passing, exhausted};
+ghost use Rattle.rs_net.specs.AcceptErrors.{meaning_of, meaning_in, is_among, passing_errors, exhaustion_errors};
 
 use std::io;
 
@@ -84,7 +84,7 @@ fn meaning(number: u32) -> AcceptError
 
 // Whether it is about one connection, or a signal. A firewall's answer is EPERM.
 fn is_passing(number: u32) -> bool
-    ensures { result ≡ is_among passing number }
+    ensures { result ≡ is_among passing_errors number }
 {
     let numbers = [
         EPERM,
@@ -106,7 +106,7 @@ fn is_passing(number: u32) -> bool
 
 // Whether it is for the present.
 fn is_exhausted(number: u32) -> bool
-    ensures { result ≡ is_among exhausted number }
+    ensures { result ≡ is_among exhaustion_errors number }
 {
     let numbers = [EAGAIN, ENOMEM, ENFILE, EMFILE, ENOBUFS];
     numbers.contains(&number)
