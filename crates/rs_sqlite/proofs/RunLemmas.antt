@@ -24,7 +24,7 @@ use Rattle.sqlite_keyed.proofs.SortLemmas.{sorted_unique}
 use Rattle.sqlite.proofs.StateLemmas.{survives_then}
 use Rattle.sqlite.proofs.Callers.{IsPlain, begins_as, given_begin, begun_plain}
 use Rattle.rs_face.specs.Rows.{IsRun}
-use Rattle.rs_sqlite.specs.Runs.{run_text, HasBegunRun, HasShown, ShowsNext}
+use Rattle.rs_sqlite.specs.RowRuns.{run_text, HasBegunRun, HasShown, ShowsNext}
 use Rattle.rs_sqlite.specs.Tables.{kept_schema, entry_at, entries_from, HoldsRows, LeavesRows}
 use Rattle.rs_sqlite.proofs.Texts.{run_query, run_is, run_plain, run_unlisted}
 use Rattle.rs_sqlite.proofs.StatementLemmas.{unchanged_holds, undone_holds, queried_holds, query_stops}

@@ -14,7 +14,7 @@ use Rattle.sqlite.specs.Compile.{table_defined_by}
 use Rattle.sqlite_tied.specs.Compute.{everything}
 use Rattle.sqlite.specs.Listing.{understood, reads_listing}
 use Rattle.sqlite.proofs.Callers.{IsPlain, command_of, statement_of}
-use Rattle.rs_sqlite.specs.Runs.{run_text}
+use Rattle.rs_sqlite.specs.RowRuns.{run_text}
 use Rattle.rs_sqlite.specs.Tables.{kept_table, kept_schema, empty_schema}
 
 abbrev pub create_text : List ℕ

@@ -8,7 +8,7 @@ ghost use Rattle.sqlite.specs.Order.{column};
 ghost use Rattle.sqlite.specs.Held.{state};
 ghost use Rattle.sqlite.specs.State.{HasCleanDisk, Survives};
 ghost use Rattle.rs_sqlite.specs.Limits.{max_rows};
-ghost use Rattle.rs_sqlite.specs.Runs.{HasBegunRun, HasShown, ShowsNext};
+ghost use Rattle.rs_sqlite.specs.RowRuns.{HasBegunRun, HasShown, ShowsNext};
 ghost use Rattle.rs_sqlite.specs.Tables.{HoldsRows, IsOpenedAs, LeavesRows, HasRows};
 
 use crate::limits::RUN_BYTES;
@@ -112,8 +112,8 @@ fn ask_row<S: Alter>(connection: &mut Connection<S>, n: i64) -> Result<Row, Erro
     connection.query_row("SELECT bytes FROM kept WHERE n = ?1", params![n])
 }
 
-/// The row at the position `first` and those behind it: at least one and at most `most`, and no more once they have
-/// `RUN_BYTES`. They are one scan of the table, which reads no row twice and holds few more than it answers.
+/// The row at the position `first` and those behind it, by one scan of the table: as many as `most`, or fewer where those
+/// have `RUN_BYTES`. The error is `QueryReturnedNoRows` where the table has neither so many rows nor so many bytes from there.
 pub(crate) fn fetch_run<S: Alter>(
     alloc: Global,
     connection: &mut Connection<S>,
@@ -137,6 +137,7 @@ pub(crate) fn fetch_run<S: Alter>(
     take_run(alloc, &mut rows, most)
 }
 
+// The next rows of a query, at least one: as many as `most`, or fewer where those have `RUN_BYTES`.
 fn take_run<S: Alter>(
     alloc: Global,
     rows: &mut Rows<'_, S>,
@@ -167,7 +168,7 @@ fn take_run<S: Alter>(
     Ok(run)
 }
 
-// The bytes of the next row. Where there is none the database has fewer rows than the keeper counts, which is a fault.
+// The bytes of the next row. There being none is an error, since a keeper asks for no more rows than it counts.
 fn next_bytes<S: Alter>(rows: &mut Rows<'_, S>) -> Result<Vec<u8>, Error>
     ensures same_reference { rows.new.conn.ghost_name ≡ rows.old.conn.ghost_name }
     ensures next { HasCleanDisk (state S.Store rows.new.conn.now)
