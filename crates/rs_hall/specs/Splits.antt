@@ -17,8 +17,8 @@ module _ {W V : Type 0} where
     pub same : new ≡ record old { made = new.made }
     pub more : old.made ≤ new.made
 
-  -- so many seats are numbered at a user's lock, and no other was: the first such lock. A seat was split off that of each user
-  -- before
+  -- the lock of some user has no seat left, since so many are numbered, and is the first such: a seat was split off that of each
+  -- user before
   pub data IsFirstFull (made : ℕ) : List (Sitting W V) → List (Sitting W V) → Type 0 where
     full_here : {old new : Sitting W V} {olds news : List (Sitting W V)} → new.made ≡ made → max_seats ≤ made
         → IsFirstFull made (old ∷ olds) (new ∷ news)
