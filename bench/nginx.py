@@ -22,7 +22,7 @@ CONFIG = """
 daemon off; master_process off; worker_processes 1; error_log %(folder)s/error.log; pid %(folder)s/pid;
 events { worker_connections 64; }
 http {
-  access_log off; sendfile on; tcp_nodelay on; keepalive_requests 1000000; client_max_body_size 0;
+  access_log off; sendfile on; tcp_nodelay on; keepalive_requests 1000000; client_max_body_size 0; if_modified_since before;
   client_body_temp_path %(folder)s/temp; proxy_temp_path %(folder)s/temp; fastcgi_temp_path %(folder)s/temp;
   uwsgi_temp_path %(folder)s/temp; scgi_temp_path %(folder)s/temp;
   server { listen 127.0.0.1:%(port)d; root %(folder)s/files; autoindex on; autoindex_format json; dav_methods PUT DELETE; create_full_put_path on; }
@@ -147,7 +147,7 @@ def measure_reads(rounds):
     kinds = trees.readings("folders", 50000)
     numbers = [request.split(b" ")[1] for request in kinds[0][1]]
     paths = [path[len(b"/storage/alice"):] for path in numbers]
-    since = "If-Modified-Since: Fri, 01 Jan 2100 00:00:00 GMT\r\nIf-None-Match: *\r\n"
+    since = "If-Modified-Since: Fri, 01 Jan 2100 00:00:00 GMT\r\n"
     for (kind, requests, status), more in zip(kinds, ("", since, None, "")):
         if more is None:
             continue
