@@ -1,4 +1,4 @@
-use Rattle.std.proofs.Common.{◌≡◌, ℕ, ◌+◌, ◌-◌, ◌^◌, ◌≤◌, map}
+use Rattle.std.proofs.Common.{◌≡◌, ◌+◌, ◌-◌, ◌^◌, ◌≤◌, map}
 use Rattle.rs_face.specs.Courses.{course}
 use Rattle.rs_rules.specs.Desks.{ForHistories}
 use Rattle.rs_exchange.specs.Accounts.{IsAccount}
