@@ -1,6 +1,8 @@
 //! Configuration files, and what they say.
 
-use rs_config::{ConfigFault, ServeConfig, read_config};
+use rs_config::{ConfigFault, Room, ServeConfig, read_config};
+use rs_exchange::Account;
+use rs_path::Bytes;
 use std::alloc::Global;
 use std::process::Abort;
 use std::test::Fail;
@@ -87,68 +89,78 @@ fn file_in(alloc: Global, row: &str) -> Result<String, Fail> {
     Ok(text.replace(alloc, "¶", "\n")?)
 }
 
-fn put_user(
-    alloc: Global,
-    config: &ServeConfig,
-    user: usize,
-    out: &mut Vec<u8>,
-) -> Result<(), Fail> {
-    let account = config
-        .front
-        .accounts
-        .as_slice()
-        .get(user)
-        .ok_or("no account")?;
-    let room = config.rooms.as_slice().get(user).ok_or("no room")?;
-    let quota = room.quota;
-    out.extend_from_slice(b" / ")?;
-    out.extend_from_slice(account.name.as_slice())?;
-    out.extend_from_slice(b" ")?;
-    out.extend_from_slice(room.file.as_slice())?;
-    out.extend_from_slice(b" <")?;
-    out.extend_from_slice(account.salt.as_slice())?;
-    out.extend_from_slice(b">")?;
+fn text_of(bytes: &Bytes) -> Result<&str, Fail> {
+    Ok(std::str::from_utf8(bytes.as_slice()).map_err(|_| "no text")?)
+}
+
+fn digest_of(alloc: Global, account: &Account) -> Result<String, Fail> {
     match account.secret {
-        Some(secret) => out.extend_from_slice(format!(in alloc; " {}", secret[0])?.as_bytes())?,
-        None => out.extend_from_slice(b" none")?,
+        Some(secret) => Ok(format!(in alloc; "{}", secret[0])?),
+        None => Ok(String::from_str(alloc, "none")?),
     }
-    out.extend_from_slice(format!(in alloc; " {quota}")?.as_bytes())?;
+}
+
+fn put_user(alloc: Global, account: &Account, room: &Room, out: &mut String) -> Result<(), Fail> {
+    let name = text_of(&account.name)?;
+    let salt = text_of(&account.salt)?;
+    let file = text_of(&room.file)?;
+    let digest = digest_of(alloc, account)?;
+    let quota = room.quota;
+    let text = format!(in alloc; " / {name} {file} <{salt}> {digest} {quota}")?;
+    out.push_str(text.as_str())?;
     Ok(())
 }
 
-fn put_config(alloc: Global, config: &ServeConfig, out: &mut Vec<u8>) -> Result<(), Fail> {
-    let wait = config.wait;
-    out.extend_from_slice(config.listen.as_slice())?;
-    out.extend_from_slice(format!(in alloc; " {wait} ")?.as_bytes())?;
-    out.extend_from_slice(config.front.base.as_slice())?;
-    out.extend_from_slice(b" ")?;
-    out.extend_from_slice(config.front.host.as_slice())?;
-    for user in 0..config.rooms.len() {
-        put_user(alloc, config, user, out)?;
+fn put_users(alloc: Global, config: &ServeConfig, out: &mut String) -> Result<(), Fail> {
+    let accounts = config.front.accounts.as_slice();
+    for (account, room) in accounts.iter().zip(config.rooms.iter()) {
+        put_user(alloc, account, room, out)?;
     }
-    out.extend_from_slice(b" ?")?;
+    Ok(())
+}
+
+fn put_unknown(config: &ServeConfig, out: &mut String) -> Result<(), Fail> {
+    out.push_str(" ?")?;
     for name in &config.unknown {
-        out.extend_from_slice(b" ")?;
-        out.extend_from_slice(name.as_slice())?;
+        out.push_str(" ")?;
+        out.push_str(text_of(name)?)?;
     }
     Ok(())
 }
 
-fn answer_to(alloc: Global, file: &[u8]) -> Result<Vec<u8>, Fail> {
-    let mut out = Vec::new(alloc);
-    match read_config(alloc, file) {
-        Ok(config) => put_config(alloc, &config, &mut out)?,
-        Err(ConfigFault::Key { key }) => out.extend_from_slice(key.text().as_bytes())?,
-        Err(ConfigFault::Toml) => out.extend_from_slice(b"toml")?,
-        Err(ConfigFault::NoMemory) => out.extend_from_slice(b"no memory")?,
-    }
+fn server_text(alloc: Global, config: &ServeConfig) -> Result<String, Fail> {
+    let listen = text_of(&config.listen)?;
+    let base = text_of(&config.front.base)?;
+    let host = text_of(&config.front.host)?;
+    let wait = config.wait;
+    Ok(format!(in alloc; "{listen} {wait} {base} {host}")?)
+}
+
+fn config_text(alloc: Global, config: &ServeConfig) -> Result<String, Fail> {
+    let mut out = server_text(alloc, config)?;
+    put_users(alloc, config, &mut out)?;
+    put_unknown(config, &mut out)?;
     Ok(out)
+}
+
+fn fault_text(fault: ConfigFault) -> &'static str {
+    match fault {
+        ConfigFault::Key { key } => key.text(),
+        ConfigFault::Toml => "toml",
+        ConfigFault::NoMemory => "no memory",
+    }
+}
+
+fn answer_to(alloc: Global, file: &[u8]) -> Result<String, Fail> {
+    match read_config(alloc, file) {
+        Ok(config) => config_text(alloc, &config),
+        Err(fault) => Ok(String::from_str(alloc, fault_text(fault))?),
+    }
 }
 
 fn is_answered(rt: &impl Abort, alloc: Global, wanted: &str, file: &[u8]) -> Result<(), Fail> {
     let answer = answer_to(alloc, file)?;
-    let text = std::str::from_utf8(answer.as_slice()).map_err(|_| "no text")?;
-    assert_eq!(rt; text, wanted);
+    assert_eq!(rt; answer.as_str(), wanted);
     Ok(())
 }
 
