@@ -10,8 +10,8 @@ ghost use Rattle.rs_cli.specs.Pipes.{PipeEnds, Pipes, IsOpenState, GrantsWhereMi
 use crate::asking::{ask, open_rows};
 use crate::command::Serving;
 use crate::note::Note;
-use rs_config::host_of;
 use crate::request_fault::RequestFault;
+use rs_config::host_of;
 use rs_face::{Entropy, Keeper, Sink, Source};
 use rs_front::{Account, Accounts, Config, serve_stream};
 use rs_path::{Bytes, NoMemory};
