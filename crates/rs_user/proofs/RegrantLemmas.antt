@@ -115,7 +115,7 @@ module _ {T R : Type 0} (tree_stands : T → Contents → Type 0) where
       record {
         shows = record {
           tree = shown;
-          scopes = λ token. ap (λ (g : Grants). scopes_in token g.list.items) granted ∙ stands.shows.scopes token ∙ sym (on.given token);
+          scopes = λ token. ap (λ (g : Grants). scopes_in token g.map) granted ∙ stands.shows.scopes token ∙ sym (on.given token);
           len = omega (arith, count, stands.shows.len, on.cut, on.count);
         };
         lawful = on.lawful;

@@ -1,6 +1,9 @@
 -- What a kept record, and a reply that adds none, are for a turn.
 use Rattle.std.proofs.Common.{◌≡◌, ℕ, Bool, true, false, List, [], Option, Some, None, Result, Ok, Err, refl, sym, ap, ◌∙◌, subst, append-nil}
+use Rattle.rs_face.specs.Causes.{HasCause, Rose}
 use Rattle.rs_face.specs.Rows.{with_rows}
+use Rattle.rs_face.specs.declared.keeper.KeepFault.{KeepFault}
+use Rattle.rs_face.specs.declared.keeper.KeepFault.TheVariants.{Failed, NoMemory as NoMemoryToKeep}
 use Rattle.rs_record.specs.declared.records.Record.{Record}
 use Rattle.rs_rules.specs.declared.desk.DeskFault.{DeskFault}
 use Rattle.rs_rules.specs.declared.desk.DeskFault.TheVariants.{NoMemory}
@@ -14,7 +17,7 @@ use Rattle.rs_rules.specs.Growth.{is_store_failed, GrowsByOthers, Grows, AddsNot
 use Rattle.rs_user.specs.declared.state.UserState.{UserState}
 use Rattle.rs_user.specs.Standing.{StandsFor}
 use Rattle.rs_user.specs.Openings.{AreToldRows}
-use Rattle.rs_user.specs.Turns.{row_of, Keeps, KeepsBy, StateTurned, AnswersBy, Answered}
+use Rattle.rs_user.specs.Turns.{row_of, Keeps, KeepsBy, IsStill, TellsFault, StateTurned, AnswersBy, Answered}
 use Rattle.rs_user.proofs.SpellingLemmas.{spells_more}
 
 with_none : (told : Option (List (List ℕ))) → with_rows told [] ≡ told
@@ -40,6 +43,25 @@ module _ {T R : Type 0} (tree_stands : T → Contents → Type 0) where
         spells = λ spells. subst (λ o. AreToldRows new (with_entries h (entry_of who o))) (sym added)
             (spells_more old new h who what kept.rows kept.back kept.stands.lawful spells);
       }
+
+  told_for : (fault : KeepFault) (result : Result Turn DeskFault) (state : UserState T R) (h : History) (who : ℕ) (what : Record) (reply : Reply)
+      (old new : Option (List (List ℕ))) (before now : ℕ) → TellsFault fault result → IsStill tree_stands state h old new → (fault ≡ Failed → Rose before now)
+      → Keeps tree_stands state h who what reply result old new before now
+  told_for Failed (Ok turn) state h who what reply old new before now told still rose =
+      subst (λ (r : Reply). KeepsBy tree_stands (is_store_failed r) state h who what reply turn old new before now) (sym told)
+      (record { still = still; rose = rose refl })
+  told_for Failed (Err fault) state h who what reply old new before now told still rose = absurd told
+  told_for NoMemoryToKeep (Ok turn) state h who what reply old new before now told still rose = absurd told
+  told_for NoMemoryToKeep (Err NoMemory) state h who what reply old new before now told still rose = still
+
+  -- the row wasn't kept, and the state stands for what it stood for
+  pub not_kept : (fault : KeepFault) (kept : Result (Unit {0}) KeepFault) (result : Result Turn DeskFault) (state : UserState T R) (h : History) (who : ℕ)
+      (what : Record) (reply : Reply) (old new : Option (List (List ℕ))) (before now : ℕ) → kept ≡ Err fault → TellsFault fault result
+      → StandsFor tree_stands state h → new ≡ old → HasCause before now Failed kept
+      → Keeps tree_stands state h who what reply result old new before now
+  not_kept fault kept result state h who what reply old new before now is told stands same cause =
+      told_for fault result state h who what reply old new before now told (record { stands = stands; rows = same })
+      (λ failed. cause.failed (is ∙ ap Err failed))
 
   -- the request's record was kept
   pub kept_turns : (state : UserState T R) (h : History) (quota who : ℕ) (r : Request) (what : Record) (told : Reply) (result : Result Turn DeskFault)

@@ -12,7 +12,6 @@ ghost use Rattle.rs_user.specs.Standing.{StandsFor};
 ghost use Rattle.rs_user.specs.Preparations.{IsRowOf};
 ghost use Rattle.rs_user.specs.Turns.{Keeps, TellsFault};
 
-use crate::granted::Granted;
 use crate::state::UserState;
 use rs_face::{KeepFault, Keeper};
 use rs_rules::{Call, DeskFault, Reply, Tree, Turn, lawful_laws};
@@ -82,7 +81,8 @@ impl<T: Tree> UserState<T> {
         }
     }
 
-    /// Keeps a Grant and grants the scopes.
+    /// Grants the scopes and keeps the Grant. The grant comes first, since it may want memory; it is taken back where its row
+    /// isn't kept.
     pub(crate) fn keep_grant<K: Keeper>(
         &mut self,
         keeper: &mut K,
@@ -98,21 +98,17 @@ impl<T: Tree> UserState<T> {
         ensures count { K.row_count keeper.new + self.old.rows ≡ K.row_count keeper.old + self.new.rows }
         ensures quota { self.new.quota ≡ self.old.quota }
     {
-        let granted = Granted {
-            token: *token,
-            scopes: scopes.copy()?,
-        };
-        self.granted.reserve()?;
         let front = self.len;
+        self.grant(*token, scopes.copy()?)?;
         match keeper.append(row) {
-            Ok(()) => {
-                self.grant(granted);
-                Ok(Turn {
-                    reply: Reply::Granted,
-                    front,
-                })
+            Ok(()) => Ok(Turn {
+                reply: Reply::Granted,
+                front,
+            }),
+            Err(fault) => {
+                self.ungrant(token);
+                not_kept(fault, front)
             }
-            Err(fault) => not_kept(fault, front),
         }
     }
 

@@ -9,7 +9,6 @@ ghost use Rattle.rs_rules.specs.Lawful.{may_follow, writer_may};
 ghost use Rattle.rs_user.specs.Standing.{StandsFor};
 ghost use Rattle.rs_user.specs.Openings.{may_be_next, Opens, StandsAnew, TakesRun, TakesRow, TakesRecord};
 
-use crate::granted::Granted;
 use crate::state::UserState;
 use rs_face::{KeepFault, Keeper};
 use rs_path::{MAX_BODY, MAX_PLAIN_BODY, NoMemory, Path};
@@ -127,10 +126,7 @@ impl<T: Tree> UserState<T> {
                 self.put(ready);
             }
             Record::Remove { path, .. } => self.remove(&path),
-            Record::Grant { token, scopes } => {
-                self.granted.reserve()?;
-                self.grant(Granted { token, scopes });
-            }
+            Record::Grant { token, scopes } => self.grant(token, scopes)?,
             Record::Revoke { token } => self.revoke(&token),
         }
         Ok(())

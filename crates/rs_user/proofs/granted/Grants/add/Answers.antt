@@ -1,15 +1,6 @@
-use Rattle.std.proofs.Common.{ap, ◌∙◌, subst, sym}
-use Rattle.rs_user.specs.Grants.{scopes_in, AreInOrder}
-use Rattle.rs_user.proofs.GrantLemmas.{in_order_inserted, scopes_inserted}
+use Rattle.std.proofs.Common.{Some}
+use Rattle.rs_user.proofs.GrantLemmas.{scopes_updated}
 use Rattle.rs_user.proofs.granted.Grants.add.Goals as goal
 
-pub invariant_of-self : goal.invariant_of-self
-invariant_of-self c =
-    let grants = c.args.self.now in
-    record { in_order = subst AreInOrder (sym c.insert_at.ensures.items) (in_order_inserted grants.list.items c.vacancy-place.result c.args.granted grants.in_order c.vacancy-place.ensures.place) }
-
-pub returns : goal.returns
-returns c = record {
-  scopes = λ token. ap (scopes_in token) c.insert_at.ensures.items
-      ∙ scopes_inserted token c.args.self.now.list.items c.vacancy-place.result c.args.granted c.requires.fresh;
-}
+pub returns-clause-scopes : goal.returns-clause-scopes
+returns-clause-scopes c = λ other. scopes_updated c.args.token other (Some c.args.scopes) c.args.self.now.map c.insert.new.self c.in_ok-insert.ensures.updates
