@@ -8,7 +8,7 @@ mod entropy;
 mod net_listener;
 
 pub use accept_error::AcceptError;
-pub use connection::{TcpSink, TcpSource, two_ends};
+pub use connection::{LINGER_MILLISECONDS, TcpSink, TcpSource, close, two_ends};
 pub use entropy::OsEntropy;
 pub use net_listener::{
     DEFAULT_WAIT_SECONDS, MOST_TRIES, NetListener, PAUSE_MILLISECONDS, next_stream,

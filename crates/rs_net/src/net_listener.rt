@@ -5,7 +5,7 @@ ghost use Rattle.rs_face.specs.Causes.{HasCause};
 ghost use Rattle.rs_face.specs.Listening.{GivesNext, after_given, after_end};
 ghost use Rattle.rs_net.specs.NetListeners.{gave_all, is_end};
 
-use crate::{AcceptError, TcpSink, TcpSource, two_ends};
+use crate::{AcceptError, TcpSink, TcpSource, close, two_ends};
 use rs_face::{ListenFault, Listener};
 use std::alloc::Global;
 use std::marker::Model;
@@ -180,7 +180,10 @@ impl<'a, C: Clock> Listener for NetListener<'a, C> {
         Err(ListenFault::Failed)
     }
 
-    fn end(&mut self, _source: TcpSource, _sink: TcpSink, _starved: bool)
+    /// Closes the connection, as `close` says.
+    fn end(&mut self, source: TcpSource, sink: TcpSink, _starved: bool)
         ensures same { self.new ≡ self.old }
-    {}
+    {
+        close(self.clock, source, sink);
+    }
 }

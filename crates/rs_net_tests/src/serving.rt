@@ -1,7 +1,7 @@
 //! Connections over the loopback address, both ends in this process.
 
 use rs_face::{Listener, Sink, SinkFault, Source, SourceFault, write_all};
-use rs_net::{NetListener, TcpSink, TcpSource, two_ends};
+use rs_net::{NetListener, TcpSink, TcpSource, close, two_ends};
 use std::alloc::{AllocError, Global};
 use std::io::{ErrorKind, Read, Write};
 use std::net::{Ipv4Addr, Net, Shutdown, SocketAddr, TcpListener, TcpStream};
@@ -184,6 +184,25 @@ fn send_behind_a_head(sink: &mut TcpSink, piece: &[u8]) -> bool {
 
 fn read_whole(mut client: &TcpStream, room: &mut [u8]) -> bool {
     client.read_exact(room).is_ok()
+}
+
+#[test]
+fn a_client_that_still_sends_reads_the_last_reply(rt: HostRuntime) -> Result<(), Fail> {
+    let (mut client, source, mut sink) = connect(
+        &rt,
+        rt.alloc(),
+        Duration::from_secs(AMPLE_SECONDS),
+    )?;
+    client.write_all(zeros(rt.alloc(), 30_000)?.as_slice())?;
+    write_all(&mut sink, b"refused")?;
+    sink.flush()?;
+    close(&rt, source, sink);
+    client.set_read_timeout(Some(Duration::from_secs(AMPLE_SECONDS)))?;
+    let mut room = [0; 9];
+    assert_eq!(rt; client.read(&mut room)?, 7);
+    assert_eq!(rt; room, *b"refused\0\0");
+    assert_eq!(rt; client.read(&mut room)?, 0);
+    Ok(())
 }
 
 #[test]
