@@ -2,3 +2,4 @@ mod MatchLemmas
 mod ServeLemmas
 mod ValueLemmas
 mod SettingLemmas
+mod LawLemmas

@@ -70,3 +70,7 @@ ReadsServe words (Ok read) = (fault_of serve_app words ≡ []) × HasServeWords 
 ReadsServe words (Err fault.Help) = RefusesWords words fault.Help
 ReadsServe words (Err fault.Words) = RefusesWords words fault.Words
 ReadsServe words (Err fault.NoMemory) = Unit {0}
+
+-- what `serve --help` prints, without its last line end
+unfoldable pub serve_help_text : List ℕ
+serve_help_text = codes "Serves the users of a configuration file over HTTP.\n\nUsage: rs serve [OPTIONS] --config <FILE>\n\nOptions:\n      --config <FILE>  The configuration, a TOML file\n      --workers <N>    How many connections are served at one time, 1 to 64 [default: 8]\n  -h, --help           Print help"

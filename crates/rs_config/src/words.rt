@@ -3,7 +3,7 @@
 ghost use Rattle.std.specs.Prelude.{◌≡◌, true, false, Some, is_some, map, codes, string_bytes, IfOk, IfErr};
 ghost use Rattle.clap.specs.Words.{rows_of, found_of, rule_of, app_of, matches_of, takes, fault_of, kind_of, first_value, FailsBy};
 ghost use Rattle.clap.specs.declared.error.kind.ErrorKind.TheVariants.{OutOfMemory};
-ghost use Rattle.rs_config.specs.ServeWordings.{serve_app, config_rule, workers_rule, HasServeWords, HasServeTexts, HasWorkers, ReadsServe, serve_fault};
+ghost use Rattle.rs_config.specs.ServeWordings.{serve_help_text, serve_app, config_rule, workers_rule, HasServeWords, HasServeTexts, HasWorkers, ReadsServe, serve_fault};
 
 use clap::error::ErrorKind;
 use clap::{Arg, ArgAction, ArgMatches, Command, Error};
@@ -13,17 +13,13 @@ use std::alloc::Global;
 /// The most workers of a server.
 pub const MAX_WORKERS: u32 = 64;
 
-/// What `serve --help` prints.
-pub const HELP: &str = "\
-Serves the users of a configuration file over HTTP.
-
-Usage: serve [OPTIONS] --config <FILE>
-
-Options:
-      --config <FILE>  The configuration, a TOML file
-      --workers <N>    How many connections are served at one time, 1 to 64 [default: 8]
-  -h, --help           Print help
-";
+/// What `serve --help` prints. It has no last line end.
+#[tactic(auto, unfolding(crate::specs::ServeWordings::serve_help_text))]
+pub fn serve_help_text() -> &'static [u8]
+    ensures text { result.now ≡ serve_help_text }
+{
+    b"Serves the users of a configuration file over HTTP.\n\nUsage: rs serve [OPTIONS] --config <FILE>\n\nOptions:\n      --config <FILE>  The configuration, a TOML file\n      --workers <N>    How many connections are served at one time, 1 to 64 [default: 8]\n  -h, --help           Print help"
+}
 
 /// The words after `serve`.
 #[derive(Debug, Drop)]
@@ -39,7 +35,7 @@ pub struct ServeWords {
 pub enum ServeFault {
     /// They aren't what the command takes.
     Words,
-    /// They ask for help, which is [`HELP`].
+    /// They ask for help, which is [`serve_help_text`].
     Help,
     /// Memory ran out.
     NoMemory,

@@ -1,6 +1,6 @@
 //! Words after `serve`, and what they say.
 
-use rs_config::{HELP, ServeFault, read_serve};
+use rs_config::{ServeFault, read_serve, serve_help_text};
 use std::alloc::Global;
 use std::test::Fail;
 
@@ -81,10 +81,12 @@ fn words_after_serve(rt: HostRuntime) -> Result<(), Fail> {
 }
 
 #[test]
-fn help_names_each_option(rt: HostRuntime) {
-    assert!(rt; HELP.contains("--config <FILE>"));
-    assert!(rt; HELP.contains("--workers <N>"));
-    assert!(rt; HELP.contains("1 to 64"));
-    assert!(rt; HELP.contains("default: 8"));
-    assert!(rt; HELP.ends_with("\n"));
+fn help_names_each_option(rt: HostRuntime) -> Result<(), Fail> {
+    let help = str::from_utf8(serve_help_text()).ok().ok_or("no UTF-8")?;
+    assert!(rt; help.contains("--config <FILE>"));
+    assert!(rt; help.contains("--workers <N>"));
+    assert!(rt; help.contains("1 to 64"));
+    assert!(rt; help.contains("default: 8"));
+    assert!(rt; help.ends_with("Print help"));
+    Ok(())
 }
