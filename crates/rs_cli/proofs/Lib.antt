@@ -4,3 +4,4 @@ mod NumberLemmas
 mod GrantLemmas
 mod PipeLemmas
 mod CompletenessLemmas
+mod PrintLemmas

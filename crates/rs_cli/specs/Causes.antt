@@ -6,6 +6,8 @@ use Rattle.rs_rules.specs.declared.open_fault.OpenFault.{OpenFault}
 use Rattle.rs_rules.specs.declared.open_fault.OpenFault.TheVariants as opening
 use Rattle.rs_front.specs.declared.serve.End.{End}
 use Rattle.rs_front.specs.declared.serve.End.TheVariants as end
+use Rattle.rs_config.specs.declared.config_fault.ConfigFault.{ConfigFault}
+use Rattle.rs_config.specs.declared.config_fault.ConfigFault.TheVariants as config
 use Rattle.rs_cli.specs.declared.request_fault.RequestFault.{RequestFault}
 use Rattle.rs_cli.specs.declared.request_fault.RequestFault.TheVariants as asked
 use Rattle.rs_cli.specs.declared.command.WordFault.{WordFault}
@@ -17,6 +19,12 @@ use Rattle.rs_cli.specs.declared.note.Note.TheVariants as note
 abbrev pub note_of_words : WordFault → Note
 note_of_words (words.Word index) = note.Word index
 note_of_words words.NoMemory = note.NoMemory
+
+-- a configuration that is refused
+abbrev pub note_of_config : ConfigFault → Note
+note_of_config config.Toml = note.ConfigToml
+note_of_config (config.Key key) = note.Config key
+note_of_config config.NoMemory = note.NoMemory
 
 -- rows that are not opened
 abbrev pub note_of_opening : OpenFault → Note

@@ -1,13 +1,15 @@
 -- What is said at the end of a command.
 use Rattle.std.specs.Prelude.{ℕ, List, [], ◌++◌, codes, decimal}
 use Rattle.rs_scope.specs.Tokens.{token_text}
+use Rattle.rs_config.specs.ConfigKeys.{config_key_text}
 use Rattle.rs_cli.specs.declared.note.Note.{Note}
-use Rattle.rs_cli.specs.declared.note.Note.TheVariants.{Empty, Word, KeeperFailed, NoMemory, NotThere, RowAt, RowUnlawful, SinkFailed, SourceFailed, Limit, EntropyFailed, TokenTaken, Message}
+use Rattle.rs_cli.specs.declared.note.Note.TheVariants.{Empty, Word, KeeperFailed, NoMemory, NotThere, RowAt, RowUnlawful, SinkFailed, SourceFailed, Limit, EntropyFailed, TokenTaken, Message, Words, Config, ConfigToml, ListenerFailed}
 
 -- the code that a note's status has
 abbrev pub code_of : Note → ℕ
 code_of Empty = 0
 code_of (Word index) = 2
+code_of Words = 2
 code_of KeeperFailed = 3
 code_of NoMemory = 5
 code_of NotThere = 8
@@ -19,11 +21,15 @@ code_of Limit = 14
 code_of EntropyFailed = 17
 code_of (TokenTaken token) = 17
 code_of (Message place) = 18
+code_of (Config key) = 21
+code_of ConfigToml = 21
+code_of ListenerFailed = 22
 
 -- what is said about a status
 unfoldable pub note_text : Note → List ℕ
 note_text Empty = []
 note_text (Word index) = codes "word " ++ decimal index
+note_text Words = codes "words"
 note_text KeeperFailed = codes "keeper failed"
 note_text NoMemory = codes "no memory"
 note_text NotThere = codes "not there"
@@ -35,3 +41,6 @@ note_text Limit = codes "limit"
 note_text EntropyFailed = codes "entropy failed"
 note_text (TokenTaken token) = codes "token taken " ++ token_text token
 note_text (Message place) = codes "message at " ++ decimal place
+note_text (Config key) = codes "config " ++ config_key_text key
+note_text ConfigToml = codes "config toml"
+note_text ListenerFailed = codes "listener failed"

@@ -6,6 +6,7 @@ ghost use Rattle.rs_cli.specs.Causes.{note_of_printing};
 use crate::command::WordFault;
 use crate::note::Note;
 use crate::request_fault::RequestFault;
+use rs_config::ConfigFault;
 use rs_face::{EntropyFault, SinkFault};
 use rs_front::End;
 use rs_rules::OpenFault;
@@ -20,6 +21,21 @@ impl From<WordFault> for Note {
         match fault {
             WordFault::Word { index } => Note::Word { index },
             WordFault::NoMemory => Note::NoMemory,
+        }
+    }
+}
+
+impl From<ConfigFault> for Note {
+    ghost use Rattle.std.specs.Prelude.{◌≡◌};
+    ghost use Rattle.rs_cli.specs.Causes.{note_of_config};
+
+    ghost from_gives = { λ fault note. note ≡ note_of_config fault };
+
+    fn from(fault: ConfigFault) -> Note {
+        match fault {
+            ConfigFault::Toml => Note::ConfigToml,
+            ConfigFault::Key { key } => Note::Config { key },
+            ConfigFault::NoMemory => Note::NoMemory,
         }
     }
 }

@@ -20,6 +20,7 @@ mod texts;
 pub use command::{Command, RowsFile, Serving, WordFault};
 pub use laws::completeness_law;
 pub use note::Note;
+pub use printing::{print_count, print_line};
 pub use reading::read_command;
 pub use run::{rows_file, run_here};
 pub use status::Status;

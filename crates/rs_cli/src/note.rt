@@ -3,6 +3,7 @@
 ghost use Rattle.std.specs.Prelude.{◌≡◌, ◌++◌, OnOk, OnErr, decimal};
 
 use itoa::Buffer;
+use rs_config::ConfigKey;
 use rs_path::NoMemory;
 use rs_scope::Token;
 
@@ -14,6 +15,8 @@ pub enum Note {
     /// Code 2: the words are in no form, and the word at this index, counted from 0, is the first wrong one.
     /// Where a word is missing this is the number of words.
     Word { index: u64 },
+    /// Code 2: the words after `serve` aren't what that command takes.
+    Words,
     /// Code 3: the keeper failed.
     KeeperFailed,
     /// Code 5: memory was wanted.
@@ -37,6 +40,12 @@ pub enum Note {
     /// Code 18: at this place of the input, counted in bytes from 0, is a message that can't be served, or the input ended
     /// inside a message.
     Message { place: u64 },
+    /// Code 21: the configuration of `serve` is refused at this key.
+    Config { key: ConfigKey },
+    /// Code 21: the configuration of `serve` is no TOML.
+    ConfigToml,
+    /// Code 22: a listener failed.
+    ListenerFailed,
 }
 
 impl Note {
@@ -49,7 +58,7 @@ impl Note {
     {
         match self {
             Note::Empty => 0,
-            Note::Word { .. } => 2,
+            Note::Word { .. } | Note::Words => 2,
             Note::KeeperFailed => 3,
             Note::NoMemory => 5,
             Note::NotThere => 8,
@@ -59,6 +68,8 @@ impl Note {
             Note::Limit => 14,
             Note::EntropyFailed | Note::TokenTaken { .. } => 17,
             Note::Message { .. } => 18,
+            Note::Config { .. } | Note::ConfigToml => 21,
+            Note::ListenerFailed => 22,
         }
     }
 
@@ -81,6 +92,7 @@ impl Note {
         match self {
             Note::Empty => {}
             Note::Word { index } => put_numbered(out, b"word ", *index)?,
+            Note::Words => put_text(out, b"words")?,
             Note::KeeperFailed => put_text(out, b"keeper failed")?,
             Note::NoMemory => put_text(out, b"no memory")?,
             Note::NotThere => put_text(out, b"not there")?,
@@ -101,6 +113,12 @@ impl Note {
                 put_text(out, &token.digits())?;
             }
             Note::Message { place } => put_numbered(out, b"message at ", *place)?,
+            Note::Config { key } => {
+                put_text(out, b"config ")?;
+                put_text(out, key.text().as_bytes())?;
+            }
+            Note::ConfigToml => put_text(out, b"config toml")?,
+            Note::ListenerFailed => put_text(out, b"listener failed")?,
         }
         Ok(())
     }

@@ -1,11 +1,13 @@
 //! Printed lines.
 
+ghost use Rattle.std.specs.Prelude.{◌++◌, decimal};
 ghost use Rattle.rs_face.specs.Causes.{HasCause};
 ghost use Rattle.rs_face.specs.Courses.{course, Writes};
 ghost use Rattle.rs_cli.specs.Grants.{Prints, line_of};
 
 use crate::causes::note_of_printing;
 use crate::note::Note;
+use itoa::Buffer;
 use rs_face::{Sink, SinkFault, write_all};
 
 /// Prints the text and a line end, and hands them on. The note is `Empty`, or says why not; then a front of them was written.
@@ -13,6 +15,22 @@ pub fn print_line<W: Sink>(sink: &mut W, text: &[u8]) -> Note
     ensures prints { Prints (course W.written W.faults sink.old sink.new) (line_of text.now) result }
 {
     note_of_printing(write_line(sink, text))
+}
+
+/// Prints the text, the number in decimal and a line end, and hands them on. The note is as that of [`print_line`].
+pub fn print_count<W: Sink>(sink: &mut W, text: &[u8], count: u64) -> Note
+    ensures prints { Prints (course W.written W.faults sink.old sink.new) (line_of (text.now ++ decimal count)) result }
+{
+    note_of_printing(write_count(sink, text, count))
+}
+
+#[tactic(auto, using(std::proofs::Common::append_assoc))]
+fn write_count<W: Sink>(sink: &mut W, text: &[u8], count: u64) -> Result<(), SinkFault>
+    ensures writes { Writes (course W.written W.faults sink.old sink.new) (line_of (text.now ++ decimal count)) result }
+    ensures cause { HasCause (W.faults sink.old) (W.faults sink.new) SinkFault.Failed result }
+{
+    write_all(sink, text)?;
+    write_line(sink, Buffer::new().format(count).as_bytes())
 }
 
 fn write_line<W: Sink>(sink: &mut W, text: &[u8]) -> Result<(), SinkFault>
