@@ -12,9 +12,9 @@ use Rattle.rs_user.specs.Grants.{scopes_in}
 
 -- a map that has other scopes at one token
 pub scopes_updated : (token other : List ℕ) (scopes : Option (List Scope)) (old new : BTreeMap (List ℕ) (List Scope))
-    → Updates (slice_cmp nat_cmp) old new token scopes → scopes_in other new ≡ cond (bytes_eq token other) scopes (scopes_in other old)
+    → Updates (slice_cmp nat_cmp) old new token scopes → scopes_in other new.entries ≡ cond (bytes_eq token other) scopes (scopes_in other old.entries)
 scopes_updated token other scopes old new updates =
-    updates.0 other ∙ ap (λ same. cond same scopes (scopes_in other old)) (sym (texts_ties token other))
+    updates.0 other ∙ ap (λ same. cond same scopes (scopes_in other old.entries)) (sym (texts_ties token other))
 
 nothing : {X : Type 0} (o : Option X) → is_none o ≡ true → o ≡ None
 nothing None is = refl

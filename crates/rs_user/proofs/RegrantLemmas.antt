@@ -14,7 +14,6 @@ use Rattle.rs_rules.specs.Tokens.{scopes_of, scopes_after}
 use Rattle.rs_rules.specs.Contents.{Contents, contents, contents_after}
 use Rattle.rs_rules.specs.Snapshots.{snapshot}
 use Rattle.rs_rules.specs.Lawful.{may_follow, IsLawful}
-use Rattle.rs_user.specs.declared.granted.Grants.{Grants}
 use Rattle.rs_user.specs.declared.state.UserState.{UserState}
 use Rattle.rs_user.specs.Grants.{scopes_in}
 use Rattle.rs_user.specs.Regrants.{regrants}
@@ -115,7 +114,7 @@ module _ {T R : Type 0} (tree_stands : T → Contents → Type 0) where
       record {
         shows = record {
           tree = shown;
-          scopes = λ token. ap (λ (g : Grants). scopes_in token g.map) granted ∙ stands.shows.scopes token ∙ sym (on.given token);
+          scopes = λ token. ap (scopes_in token) granted ∙ stands.shows.scopes token ∙ sym (on.given token);
           len = omega (arith, count, stands.shows.len, on.cut, on.count);
         };
         lawful = on.lawful;

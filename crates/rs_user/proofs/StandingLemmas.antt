@@ -51,7 +51,7 @@ module _ {T : Type 0} (tree_stands : T → Contents → Type 0) where
 module _ {T R : Type 0} (tree_stands : T → Contents → Type 0) where
   pub stands_more : (state new : UserState T R) (h : History) (e : LogEntry Record) → StandsFor tree_stands state h → IsLawful (with_entry h e)
       → tree_stands new.tree (contents (with_entry h e))
-      → ((token : List ℕ) → scopes_in token new.granted.map ≡ scopes_of (with_entry h e) token)
+      → ((token : List ℕ) → scopes_in token new.granted ≡ scopes_of (with_entry h e) token)
       → new.len ≡ state.len + 1 → new.cut ≡ state.cut → new.rows ≡ state.rows + 1
       → StandsFor tree_stands new (with_entry h e)
   stands_more state new h e stands lawful tree scopes counted cut rows =

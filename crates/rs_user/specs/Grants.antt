@@ -1,6 +1,7 @@
--- The tokens that are granted, as a map in the order of their bytes.
+-- The tokens that are granted, with their scopes.
 use Rattle.std.specs.Prelude.{ℕ, List, Option, Some, None, if◌then◌else◌}
-use Rattle.std.specs.BTreeMap.{BTreeMap, get}
+use Rattle.std.specs.BTreeMap.{is_at}
+use Rattle.std.specs.Map.{lookup}
 use Rattle.std.specs.Cmp.Lexicographic.{slice_cmp}
 use Rattle.std.specs.Ordering.{nat_cmp}
 use Rattle.rs_path.specs.Paths.{Path}
@@ -10,9 +11,9 @@ use Rattle.rs_scope.specs.Reach.{reach_of}
 use Rattle.rs_rules.specs.declared.reply.Reply.{Reply}
 use Rattle.rs_rules.specs.declared.reply.Reply.TheVariants.{BadToken, Forbidden}
 
--- the scopes of the token, if it is granted
-abbrev pub scopes_in : List ℕ → BTreeMap (List ℕ) (List Scope) → Option (List Scope)
-scopes_in token granted = get (slice_cmp nat_cmp) granted token
+-- the scopes of a token among tokens with their scopes, if it is there
+abbrev pub scopes_in : List ℕ → List (List ℕ × List Scope) → Option (List Scope)
+scopes_in token granted = lookup (is_at (slice_cmp nat_cmp token)) granted
 
 -- the reply to a token that has these scopes, if they aren't enough
 abbrev pub token_refusal : Option (List Scope) → Method → Path → Option Reply

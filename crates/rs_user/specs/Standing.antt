@@ -13,7 +13,7 @@ module _ {T R : Type 0} (tree_stands : T → Contents → Type 0) where
   -- the state has all that an answer looks at
   pub record Shows (state : UserState T R) (s : Snapshot) : Type 0 where
     pub tree : tree_stands state.tree s.contents
-    pub scopes : (token : List ℕ) → scopes_in token state.granted.map ≡ s.scopes token
+    pub scopes : (token : List ℕ) → scopes_in token state.granted ≡ s.scopes token
     pub len : state.len ≡ s.len
 
   -- the state stands for the lawful history: it has the documents, the versions, the granted tokens and the length, the cut

@@ -12,7 +12,7 @@ use rs_scope::{Token, free_read, reaches};
 
 /// The reply to a request whose token isn't enough (RFC 6750, section 3.1), or None where it is.
 pub(crate) fn refused_access(granted: &Grants, call: &Call) -> Option<Reply>
-    ensures access { (s : Snapshot) → ((token : List ℕ) → scopes_in token granted.now.map ≡ s.scopes token)
+    ensures access { (s : Snapshot) → ((token : List ℕ) → scopes_in token granted.now ≡ s.scopes token)
         → first_of (early_steps s call.now) ≡ option_or result (first_of (place_steps s call.now)) }
     ensures plain { IfSome result (λ reply. record_of_call call.now reply ≡ None) }
 {
@@ -27,7 +27,7 @@ pub(crate) fn refused_access(granted: &Grants, call: &Call) -> Option<Reply>
 }
 
 fn refused_token(granted: &Grants, token: &Token, call: &Call) -> Option<Reply>
-    ensures reply { result ≡ token_refusal (scopes_in token.now granted.now.map) call.now.method call.now.path }
+    ensures reply { result ≡ token_refusal (scopes_in token.now granted.now) call.now.method call.now.path }
 {
     match granted.scopes_in(token) {
         None => Some(Reply::BadToken),

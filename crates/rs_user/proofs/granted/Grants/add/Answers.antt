@@ -3,4 +3,4 @@ use Rattle.rs_user.proofs.GrantLemmas.{scopes_updated}
 use Rattle.rs_user.proofs.granted.Grants.add.Goals as goal
 
 pub returns-clause-scopes : goal.returns-clause-scopes
-returns-clause-scopes c = λ other. scopes_updated c.args.token other (Some c.args.scopes) c.args.self.now.map c.insert.new.self c.in_ok-insert.ensures.updates
+returns-clause-scopes c = λ other. rw (← c.self.view_is) (scopes_updated c.args.token other (Some c.args.scopes) c.self.inside.map c.insert.new.self c.in_ok-insert.ensures.updates)
