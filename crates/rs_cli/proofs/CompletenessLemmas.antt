@@ -4,8 +4,8 @@ use Rattle.rs_face.specs.declared.sink.SinkFault.{SinkFault}
 use Rattle.rs_face.specs.declared.sink.SinkFault.TheVariants as sink
 use Rattle.rs_face.specs.Causes.{HasCause, Rose}
 use Rattle.rs_scope.specs.declared.scope.Scope.{Scope}
-use Rattle.rs_rules.specs.declared.open_fault.OpenFault.{OpenFault}
-use Rattle.rs_rules.specs.declared.open_fault.OpenFault.TheVariants as opening_fault
+use Rattle.rs_row.specs.declared.open_fault.OpenFault.{OpenFault}
+use Rattle.rs_row.specs.declared.open_fault.OpenFault.TheVariants as opening_fault
 use Rattle.rs_rules.specs.declared.reply.Reply.TheVariants as reply
 use Rattle.rs_rules.specs.declared.request.Request.{Request}
 use Rattle.rs_rules.specs.declared.request.Request.TheVariants.{Grant as GrantRequest, Revoke as RevokeRequest}

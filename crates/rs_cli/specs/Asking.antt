@@ -1,7 +1,7 @@
 -- The steps of `grant` and `revoke`.
 use Rattle.std.specs.Prelude.{◌≡◌, ℕ, ◌⊎◌, List, Result, Ok, Err}
 use Rattle.rs_scope.specs.declared.scope.Scope.{Scope}
-use Rattle.rs_rules.specs.declared.open_fault.OpenFault.{OpenFault}
+use Rattle.rs_row.specs.declared.open_fault.OpenFault.{OpenFault}
 use Rattle.rs_rules.specs.declared.reply.Reply.{Reply}
 use Rattle.rs_rules.specs.declared.reply.Reply.TheVariants as reply
 use Rattle.rs_rules.specs.declared.request.Request.{Request}

@@ -7,8 +7,8 @@ use Rattle.rs_face.specs.Rows.{with_rows}
 use Rattle.rs_scope.specs.declared.scope.Scope.{Scope}
 use Rattle.rs_scope.specs.Tokens.{token_text}
 use Rattle.rs_record.specs.declared.records.Record.TheVariants.{Grant as GrantRecord, Revoke as RevokeRecord}
-use Rattle.rs_rules.specs.declared.open_fault.OpenFault.{OpenFault}
-use Rattle.rs_rules.specs.declared.open_fault.OpenFault.TheVariants.{BadRow, Unlawful, KeeperFailed, NoMemory}
+use Rattle.rs_row.specs.declared.open_fault.OpenFault.{OpenFault}
+use Rattle.rs_row.specs.declared.open_fault.OpenFault.TheVariants.{BadRow, Unlawful, KeeperFailed, NoMemory}
 use Rattle.rs_rules.specs.declared.reply.Reply.{Reply}
 use Rattle.rs_rules.specs.declared.reply.Reply.TheVariants as reply
 use Rattle.rs_rules.specs.declared.request.Request.{Request}

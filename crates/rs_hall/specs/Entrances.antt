@@ -4,8 +4,8 @@ use Rattle.rs_path.specs.declared.log_entry.LogEntry.{LogEntry}
 use Rattle.rs_path.specs.Logs.{own}
 use Rattle.rs_face.specs.Causes.{Rose}
 use Rattle.rs_record.specs.declared.records.Record.{Record}
-use Rattle.rs_rules.specs.declared.open_fault.OpenFault.{OpenFault}
-use Rattle.rs_rules.specs.declared.open_fault.OpenFault.TheVariants.{BadRow, Unlawful, KeeperFailed, NoMemory as NoMemoryToOpen}
+use Rattle.rs_row.specs.declared.open_fault.OpenFault.{OpenFault}
+use Rattle.rs_row.specs.declared.open_fault.OpenFault.TheVariants.{BadRow, Unlawful, KeeperFailed, NoMemory as NoMemoryToOpen}
 use Rattle.rs_rules.specs.Histories.{History}
 use Rattle.rs_rules.specs.Contents.{Contents}
 use Rattle.rs_turn.specs.Origins.{BeginsAs}

@@ -1,3 +1,2 @@
-mod FieldLemmas
 mod RowLemmas
 mod CanonLemmas

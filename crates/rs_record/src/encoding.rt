@@ -5,13 +5,15 @@ ghost use Rattle.rs_path.specs.Paths.{plain_text};
 ghost use Rattle.rs_scope.specs.Scopes.{scopes_text};
 ghost use Rattle.rs_record.specs.declared.records.Record.TheVariants.{Put as PutRecord};
 ghost use Rattle.rs_record.specs.Records.{is_writable, body_limit};
-ghost use Rattle.rs_record.specs.Rows.{short_text, spelling};
+ghost use Rattle.rs_row.specs.RowTexts.{behind_2};
+ghost use Rattle.rs_record.specs.Rows.{spelling};
 ghost use Rattle.rs_record.specs.RowHeads.{put_start, remove_start, document_head, row_head, row_body};
 ghost use Rattle.rs_record.specs.RowReadings.{record_reading};
 
 use crate::parts::look_at_parts;
 use crate::records::Record;
 use rs_path::{Bytes, Kind, NoMemory, Path};
+use rs_row::{push_behind_1, push_behind_2};
 use rs_scope::{Scopes, Token};
 use sha2::{Digest, Sha256};
 use std::alloc::Global;
@@ -143,34 +145,23 @@ fn push_document_head(
     ensures { OnOk result (out.new.items ≡ out.old.items ++ document_head path.now kind.now body.now) }
 {
     push_path(out, path)?;
-    out.push(kind.as_slice().len() as u8)?;
-    out.extend_from_slice(kind.as_slice())?;
+    push_behind_1(out, kind.as_slice())?;
     out.extend_from_slice(&(body.len() as u32).to_be_bytes())?;
     Ok(())
 }
 
 fn push_path(out: &mut Vec<u8>, path: &Path) -> Result<(), NoMemory>
-    ensures { OnOk result (out.new.items ≡ out.old.items ++ short_text (plain_text path.now)) }
+    ensures { OnOk result (out.new.items ≡ out.old.items ++ behind_2 (plain_text path.now)) }
 {
     let mut text = Vec::new(*out.allocator());
     path.write_plain(&mut text)?;
-    push_short(out, text.as_slice())
+    push_behind_2(out, text.as_slice())
 }
 
 fn push_scopes(out: &mut Vec<u8>, scopes: &Scopes) -> Result<(), NoMemory>
-    ensures { OnOk result (out.new.items ≡ out.old.items ++ short_text (scopes_text scopes.now)) }
+    ensures { OnOk result (out.new.items ≡ out.old.items ++ behind_2 (scopes_text scopes.now)) }
 {
     let mut text = Vec::new(*out.allocator());
     scopes.write(&mut text)?;
-    push_short(out, text.as_slice())
-}
-
-// A text behind its length of two bytes.
-fn push_short(out: &mut Vec<u8>, text: &[u8]) -> Result<(), NoMemory>
-    requires { length text.now < 2 ^ 16 }
-    ensures { OnOk result (out.new.items ≡ out.old.items ++ short_text text.now) }
-{
-    out.extend_from_slice(&(text.len() as u16).to_be_bytes())?;
-    out.extend_from_slice(text)?;
-    Ok(())
+    push_behind_2(out, text.as_slice())
 }

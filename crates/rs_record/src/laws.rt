@@ -2,7 +2,7 @@
 
 ghost use Rattle.std.specs.Prelude.{◌≡◌, List, ℕ, Ok, Err, true, [], ◌∷◌, ◌++◌, length};
 ghost use Rattle.rs_record.specs.declared.records.Record.{Record};
-ghost use Rattle.rs_record.specs.declared.record_fault.RecordFault.TheVariants.{Bad};
+ghost use Rattle.rs_row.specs.declared.row_fault.RowFault.TheVariants.{Bad};
 ghost use Rattle.rs_record.specs.Records.{is_record};
 ghost use Rattle.rs_record.specs.Rows.{spelling};
 ghost use Rattle.rs_record.specs.RowReadings.{record_reading};

@@ -6,7 +6,7 @@ ghost use Rattle.rs_record.specs.Records.{has_parts, is_writer};
 use crate::records::Record;
 use rs_scope::Token;
 
-// ReadsAsRecord nothing: it says what the types of a record's parts promise.
+// It reads nothing: it says what the types of a record's parts promise.
 pub(crate) fn look_at_parts(it: &Record)
     ensures { IsTrue (has_parts it.now) }
 {

@@ -9,7 +9,6 @@ mod doc;
 mod entity_tag;
 mod laws;
 mod limits;
-mod open_fault;
 mod pass;
 mod placed;
 mod reading;
@@ -30,11 +29,11 @@ pub use laws::{
     same_version_law, settle_law, step_laws, taken_laws, version_bounds, version_law,
 };
 pub use limits::{MAX_ITEMS, MAX_LEN, limit_laws};
-pub use open_fault::OpenFault;
 pub use pass::Pass;
 pub use placed::Placed;
 pub use reply::Reply;
 pub use request::Request;
+pub use rs_row::OpenFault;
 pub use tag_list::TagList;
 pub use tree::Tree;
 pub use turn::Turn;

@@ -6,3 +6,4 @@ mod RunLemmas
 mod StatementLemmas
 mod TellingLemmas
 mod Texts
+mod VersionLemmas

@@ -8,7 +8,8 @@ use Rattle.sqlite.specs.Schema.{Schema}
 use Rattle.sqlite.specs.Tree.{Trees}
 use Rattle.sqlite.specs.Effect.{Database}
 use Rattle.sqlite.specs.State.{State, IsLive, Opens}
-use Rattle.sqlite_catalog.specs.Listing.{IsTableRow, IsSound}
+use Rattle.sqlite_catalog.specs.Listing.{IsTableRow, IsSound, Lists}
+use Rattle.sqlite_trees.specs.Objects.{catalog_tree}
 use Rattle.rs_sqlite.specs.Tables.{kept_table, kept_schema, HoldsRows}
 
 -- ---- a catalog that lists the table of rows alone lists no other schema
@@ -39,10 +40,10 @@ none_else P Q [] [] all other = refl
 none_else P Q [] (x ∷ xs) all other = absurd other
 none_else P Q (row ∷ rows) xs all other = absurd all
 
-same_schema : (db : Trees) (other : Schema) → IsSound kept_schema db → IsSound other db → other ≡ kept_schema
-same_schema db other one two =
-    let first = one.lists.listed in
-    let second = two.lists.listed in
+pub same_schema : (catalog : List Row) (other : Schema) → Lists catalog kept_schema → Lists catalog other → other ≡ kept_schema
+same_schema catalog other one two =
+    let first = one.listed in
+    let second = two.listed in
     let tables = one_table _ other.tables first.tables second.tables in
     let indexes = none_else _ _ _ other.indexes first.indexes second.indexes in
     let views = none_else _ _ _ other.views first.views second.views in
@@ -61,7 +62,7 @@ holds_again old new rows h old_is opens new_is same =
     record {
       settled = record { is_open = opens.is_open; autocommit = opens.autocommit; committed = sym opens.clean };
       few = h.few;
-      schema = same_schema old.now.trees new.now.schema before after;
+      schema = same_schema (old.now.trees catalog_tree) new.now.schema before.lists after.lists;
       table = ap (λ (t : Trees). t 0) trees ∙ h.table;
     }
 

@@ -2,6 +2,7 @@
 ghost use Rattle.std.specs.Prelude.{◌≡◌, ℕ, ◌+◌, ◌<◌, ◌≤◌, pos, List, [], ◌∷◌, ◌++◌, None, slice_get, Some, length, if◌then◌else◌, is_ok, IfOk, OnOk, OnErr, IsErrOf};
 ghost use Rattle.sqlite.specs.Held.{state};
 ghost use Rattle.sqlite.specs.State.{HasCleanDisk, Survives};
+ghost use Rattle.sqlite_trees.specs.Objects.{version_tree, version_rows};
 ghost use Rattle.rs_face.specs.Causes.{one_more, HasCause};
 ghost use Rattle.rs_face.specs.Rows.{IsRun};
 ghost use Rattle.rs_sqlite.specs.Limits.{max_rows};
@@ -10,8 +11,10 @@ ghost use Rattle.rs_sqlite.specs.Tables.{IsOpenedAs, HasRows};
 
 use crate::limits::{MAX_ROWS, RUN_ROWS};
 use crate::statements::{fetch, fetch_run, insert, rows_of};
+use crate::versions::with_version;
 use rs_face::{KeepFault, Keeper};
 use sqlite::{Alter, Connection, Error, ErrorCode};
+use std::alloc::Global;
 use std::marker::Model;
 
 /// A keeper that holds its rows in the table `kept(n INTEGER PRIMARY KEY, bytes BLOB NOT NULL)` of a database.
@@ -98,6 +101,30 @@ impl<S: Alter + Drop> SqlKeeper<S> {
         let mut keeper = self;
         keeper.faults = faults;
         keeper
+    }
+
+    /// The same keeper, whose database has this user version. The rows stay, and are read again, as by an opening.
+    ///
+    /// The answer is `NoMemory` where memory ran out, and else `Failed`. What was kept is in the files then, and the next
+    /// opening finds the user version as it was, or this one.
+    pub(crate) fn with_version(self, alloc: Global, version: u32) -> Result<SqlKeeper<S>, KeepFault>
+        ensures faults { IfOk result (λ keeper. keeper.faults ≡ self.faults) }
+        ensures version { IfOk result (λ keeper. HasCleanDisk (state S.Store keeper.connection)
+            → (state S.Store keeper.connection).now.trees version_tree ≡ version_rows version) }
+        ensures rows { (rows : List (List ℕ)) → KeepsRows S.Store self rows
+            → IfOk result (λ keeper. HasCleanDisk (state S.Store keeper.connection) → KeepsRows S.Store keeper rows) }
+    {
+        let SqlKeeper {
+            connection,
+            len,
+            faults,
+        } = self;
+        let connection = with_version(alloc, connection, version)?;
+        Ok(SqlKeeper {
+            connection,
+            len,
+            faults,
+        })
     }
 
     /// The connection, to close it.

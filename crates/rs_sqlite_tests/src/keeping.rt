@@ -12,7 +12,7 @@ use std::io;
 use std::test::Fail;
 
 // Few pages in memory, so that an open is quick.
-fn options() -> Options {
+pub(crate) fn options() -> Options {
     Options {
         cache_pages: 16,
         spill_pages: 16,
@@ -36,7 +36,7 @@ fn open_files(alloc: Global, db: Memory) -> Result<Connection<FileStore<Memory>>
 }
 
 // Copies the log into the database file, which is then all of it.
-fn close_files(connection: Connection<FileStore<Memory>>) -> Result<Memory, Error>
+pub(crate) fn close_files(connection: Connection<FileStore<Memory>>) -> Result<Memory, Error>
     ensures { IfOk result (λ db. IsTrue (memory_is_usable db)) }
 {
     match connection.close_files() {
@@ -69,7 +69,7 @@ fn execute<S: Alter>(connection: &mut Connection<S>, sql: &str) -> Result<(), Er
     Ok(())
 }
 
-fn is_row<S: Alter + Drop>(
+pub(crate) fn is_row<S: Alter + Drop>(
     alloc: Global,
     keeper: &mut SqlKeeper<S>,
     i: u64,
@@ -185,7 +185,7 @@ fn a_refused_statement_leaves_the_rows(rt: HostRuntime) -> Result<(), Fail> {
 }
 
 // The bytes of a disk, on another.
-fn copy_of(alloc: Global, disk: &Memory) -> io::Result<Memory>
+pub(crate) fn copy_of(alloc: Global, disk: &Memory) -> io::Result<Memory>
     ensures { IfOk result (λ copy. IsTrue (memory_is_usable copy)) }
 {
     let mut copy = Memory::new(alloc);
@@ -194,7 +194,9 @@ fn copy_of(alloc: Global, disk: &Memory) -> io::Result<Memory>
 }
 
 // A database with one row.
-fn one_row(alloc: Global) -> Result<Memory, Fail> {
+pub(crate) fn one_row(alloc: Global) -> Result<Memory, Fail>
+    ensures { IfOk result (λ db. IsTrue (memory_is_usable db)) }
+{
     let mut keeper = SqlKeeper::open(open_files(alloc, Memory::new(alloc))?)?;
     keeper.append(b"first")?;
     Ok(close_files(keeper.into_connection())?)

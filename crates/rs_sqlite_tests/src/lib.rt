@@ -4,4 +4,6 @@
 #[cfg(test)]
 mod keeping;
 #[cfg(test)]
+mod kinds;
+#[cfg(test)]
 mod runs;

@@ -1,37 +1,30 @@
--- Rows, opened one after another.
-use Rattle.std.proofs.Common.{◌≡◌, ℕ, ◌+◌, zero, suc, ◌<◌, ◌≤◌, true, false, List, [], ◌∷◌, ◌++◌, Vec, length, map, take, drop, get_or, Option, Some, None, IfSome, Ok, Err, arith, refl, sym, ap, ◌∙◌, subst, append-nil, append_assoc, length-append}
-use Rattle.std.proofs.lemmas.Bool.{cond-true, cond-false}
-use Rattle.std.proofs.lemmas.List.{map-append, length-map, get_or-map, at_drop_more, take_more, take-append-drop, drop-drop, length-take-le}
+-- Rows, opened one after another: the first that is refused is the one at which their opening ends.
+use Rattle.std.proofs.Common.{◌≡◌, ℕ, ◌+◌, true, false, List, [], ◌∷◌, ◌++◌, length, Option, Some, None, IfSome, IfOk, Result, Ok, Err, arith, refl, sym, ap, ◌∙◌, ⊎_elim, length-append}
+use Rattle.std.proofs.lemmas.Bool.{cases_Bool, cond-true, cond-false}
+use Rattle.std.proofs.lemmas.List.{length-map}
+use Rattle.std.proofs.lemmas.Option.{none-some}
 use Rattle.rs_path.specs.declared.log_entry.LogEntry.{LogEntry}
-use Rattle.rs_face.specs.Rows.{IsRun}
-use Rattle.rs_record.specs.declared.record_fault.RecordFault.TheVariants.{Bad}
+use Rattle.rs_row.specs.declared.open_fault.OpenFault.{OpenFault}
+use Rattle.rs_row.specs.declared.open_fault.OpenFault.TheVariants.{BadRow, Unlawful, KeeperFailed, NoMemory}
+use Rattle.rs_row.specs.declared.refusal.Refusal.TheVariants.{Misplaced}
+use Rattle.rs_row.specs.declared.refusal.TakeFault.{TakeFault}
+use Rattle.rs_row.specs.declared.refusal.TakeFault.TheVariants.{Refused, NoMemory as NoMemoryToTake}
+use Rattle.rs_row.specs.declared.row_fault.RowFault.{RowFault}
+use Rattle.rs_row.specs.declared.row_fault.RowFault.TheVariants.{Bad, NoMemory as NoMemoryToRead}
+use Rattle.rs_row.specs.RowOpenings.{refused_or, refused_from, first_refused, TakesNext, OpensKeptRows}
 use Rattle.rs_record.specs.declared.records.Record.{Record}
 use Rattle.rs_record.specs.Rows.{spelling}
 use Rattle.rs_record.specs.RowReadings.{record_reading}
-use Rattle.rs_rules.specs.declared.open_fault.OpenFault.{OpenFault}
-use Rattle.rs_rules.specs.declared.open_fault.OpenFault.TheVariants.{BadRow, Unlawful, KeeperFailed, NoMemory}
 use Rattle.rs_rules.specs.Histories.{History, start, empty_base, with_entry}
 use Rattle.rs_rules.specs.Contents.{Contents}
 use Rattle.rs_user.specs.declared.state.UserState.{UserState}
 use Rattle.rs_user.specs.Standing.{StandsFor}
-use Rattle.rs_user.specs.Openings.{may_be_next, with_reading, if_opened, opening_from, opening, rows_of, by_nobody, AreRows, Opened, StandsAnew, Opens, TakenRun, TakesRun, TakesRow}
-use Rattle.rs_user.proofs.SpellingLemmas.{nobody_more}
-
--- the rows before the index are opened as the history
-pub record IsUnderWay (index : ℕ) (h : History) (kept : List (List ℕ)) : Type 0 where
-  pub left : opening kept ≡ opening_from index h (drop index kept)
-  pub rows : kept ≡ rows_of h ++ drop index kept
-  pub nobody : h ≡ by_nobody h
+use Rattle.rs_user.specs.Openings.{may_be_next, with_reading, if_opened, opening_from, opening, refusal_behind, refusal_after, row_refusal, rows_of, IsMadeOf, StandsAnew, Opens, TakesRecord}
+use Rattle.rs_user.proofs.SpellingLemmas.{nobody_more, opening_more, rows_more}
 
 -- the history and the record that was read
 abbrev pub and_read : History → Record → History
 and_read h what = with_entry h (record { who = 0; what = what })
-
-pub starts : (kept : List (List ℕ)) → IsUnderWay 0 (start empty_base) kept
-starts kept = record { left = refl; rows = refl; nobody = refl }
-
-rows_more : (h : History) (what : Record) → rows_of (and_read h what) ≡ rows_of h ++ spelling what ∷ []
-rows_more h what = map-append (λ (e : LogEntry Record). spelling e.what) h.entries (record { who = 0; what = what } ∷ [])
 
 -- ---- one row, and others behind it
 
@@ -52,207 +45,186 @@ is_unlawful index h row what rest reads may =
     ap (λ reading. if_opened (with_reading index h reading) (λ now. opening_from (index + 1) now rest)) reads
     ∙ ap (λ now. if_opened now (λ after. opening_from (index + 1) after rest)) (cond-false (may_be_next h what) (Ok (and_read h what)) (Err (Unlawful index)) may)
 
--- ---- a run of rows
+-- ---- rows, and one behind them
 
--- so many rows from the index on are the run
-abbrev pub RunAt : List (List ℕ) → ℕ → ℕ → List (List ℕ) → Type 0
-RunAt kept index count run = take count (drop index kept) ≡ run
+opened_then : (first : Result History OpenFault) (f g last : History → Result History OpenFault) → ((now : History) → g now ≡ if_opened (f now) last)
+    → if_opened first g ≡ if_opened (if_opened first f) last
+opened_then (Ok now) f g last same = same now
+opened_then (Err fault) f g last same = refl
 
--- the row is the run's at this place
-pub record IsRowAt (run : List (List ℕ)) (place : ℕ) (row : List ℕ) : Type 0 where
-  pub within : place < length run
-  pub is : row ≡ get_or run place []
+opened_itself : (first : Result History OpenFault) → if_opened first (λ now. Ok now) ≡ first
+opened_itself (Ok now) = refl
+opened_itself (Err fault) = refl
 
-pub row_at : {Z : Type 0} (run : List (Vec ℕ Z)) (place : ℕ) (one : Vec ℕ Z) (row : List ℕ) → place < length run → one ≡ get_or run place one → row ≡ one.items
-    → IsRowAt (map (λ (x : Vec ℕ Z). x.items) run) place row
-row_at {Z} run place one row within is bytes =
-    let long = length-map run (λ (x : Vec ℕ Z). x.items) in
-    record {
-      within = omega (arith, within, long);
-      is = bytes ∙ ap (λ (x : Vec ℕ Z). x.items) is ∙ sym (get_or-map (λ (x : Vec ℕ Z). x.items) run place one [] within);
-    }
+opening_behind : (index : ℕ) (h : History) (rows : List (List ℕ)) (row : List ℕ)
+    → opening_from index h (rows ++ row ∷ []) ≡ if_opened (opening_from index h rows) (λ now. with_reading (index + length rows) now (record_reading row))
+opening_behind index h [] row =
+    let here : index ≡ index + 0 = omega arith in
+    opened_itself (with_reading index h (record_reading row)) ∙ ap (λ n. with_reading n h (record_reading row)) here
+opening_behind index h (first ∷ rows) row =
+    let count : index + 1 + length rows ≡ index + length (first ∷ rows) = omega arith in
+    opened_then (with_reading index h (record_reading first)) (λ now. opening_from (index + 1) now rows) (λ now. opening_from (index + 1) now (rows ++ row ∷ []))
+    (λ now. with_reading (index + length (first ∷ rows)) now (record_reading row))
+    (λ now. opening_behind (index + 1) now rows row
+    ∙ ap (λ n. if_opened (opening_from (index + 1) now rows) (λ after. with_reading n after (record_reading row))) count)
 
--- what a keeper read is a run of the told rows
-pub found_run : {Z : Type 0} (rows told : Option (List (List ℕ))) (index count : ℕ) (out run : List (Vec ℕ Z)) → IfSome rows (λ kept. IsRun kept index out)
-    → rows ≡ told → run ≡ out → count ≡ length out → IfSome told (λ kept. RunAt kept index count (map (λ (x : Vec ℕ Z). x.items) run))
-found_run {Z} rows told index count out run found is same long =
-    subst (λ n. IfSome told (λ kept. RunAt kept index n (map (λ (x : Vec ℕ Z). x.items) run))) (sym long)
-    (subst (λ xs. IfSome told (λ kept. RunAt kept index (length out) (map (λ (x : Vec ℕ Z). x.items) xs))) (sym same)
-    (subst (λ o. IfSome o (λ kept. IsRun kept index out)) is found))
+-- rows behind a wrong one are as wrong
+wrong_more : (rows : List (List ℕ)) (row : List ℕ) (fault : OpenFault) → opening rows ≡ Err fault → opening (rows ++ row ∷ []) ≡ Err fault
+wrong_more rows row fault wrong =
+    opening_behind 0 (start empty_base) rows row
+    ∙ ap (λ o. if_opened o (λ now. with_reading (0 + length rows) now (record_reading row))) wrong
 
--- what is left begins with the run
-left_of : (kept : List (List ℕ)) (index count : ℕ) (run : List (List ℕ)) → RunAt kept index count run → drop index kept ≡ run ++ drop (index + count) kept
-left_of kept index count run is =
-    sym (take-append-drop count (drop index kept))
-    ∙ ap (λ front. front ++ drop count (drop index kept)) is
-    ∙ ap (λ rest. run ++ rest) (drop-drop count index kept)
+unread_more : (rows : List (List ℕ)) (row : List ℕ) (h : History) → opening rows ≡ Ok h → record_reading row ≡ Err NoMemoryToRead → opening (rows ++ row ∷ []) ≡ Err NoMemory
+unread_more rows row h spelled reads =
+    opening_behind 0 (start empty_base) rows row
+    ∙ ap (λ o. if_opened o (λ now. with_reading (0 + length rows) now (record_reading row))) spelled
+    ∙ ap (with_reading (0 + length rows) h) reads
 
--- the run was opened
-under_way : (index count : ℕ) (h now : History) (kept run : List (List ℕ)) → count ≡ length run
-    → ((rest : List (List ℕ)) → opening_from index h (run ++ rest) ≡ opening_from (index + length run) now rest)
-    → rows_of now ≡ rows_of h ++ run → (h ≡ by_nobody h → now ≡ by_nobody now) → IsUnderWay index h kept → RunAt kept index count run
-    → IsUnderWay (index + count) now kept
-under_way index count h now kept run long left rows nobody before is =
-    let rest = drop (index + count) kept in
-    let begins = left_of kept index count run is in
-    record {
-      left = before.left ∙ ap (opening_from index h) begins ∙ left rest ∙ ap (λ n. opening_from (index + n) now rest) (sym long);
-      rows = before.rows ∙ ap (λ more. rows_of h ++ more) begins ∙ sym (append_assoc (rows_of h) run rest) ∙ ap (λ front. front ++ rest) (sym rows);
-      nobody = nobody before.nobody;
-    }
+-- ---- the first row that is refused
 
-drop_past : {X : Type 0} (xs : List X) (n : ℕ) → length xs ≤ n → drop n xs ≡ []
-drop_past [] zero past = refl
-drop_past [] (suc n) past = refl
-drop_past (x ∷ xs) zero past = absurd (omega arith)
-drop_past (x ∷ xs) (suc n) past = drop_past xs n (omega arith)
+none_behind : (taken rows : List (List ℕ)) (fault : OpenFault) → opening taken ≡ Err fault → refused_from row_refusal taken rows ≡ None
+none_behind taken [] fault wrong = refl
+none_behind taken (row ∷ rows) fault wrong =
+    ap (λ o. refused_or (refusal_after o row) (length taken) (refused_from row_refusal (taken ++ row ∷ []) rows)) wrong
+    ∙ none_behind (taken ++ row ∷ []) rows fault (wrong_more taken row fault wrong)
 
--- the rows are those of the history, where all of them were read
-all_rows : (h : History) (kept : List (List ℕ)) (index : ℕ) → length kept ≤ index → IsUnderWay index h kept → AreRows kept h
-all_rows h kept index all before =
-    let none : drop index kept ≡ [] = drop_past kept index all in (
-      before.rows ∙ ap (λ rest. rows_of h ++ rest) none ∙ append-nil (rows_of h),
-      before.left ∙ ap (opening_from index h) none ∙ ap Ok before.nobody,
-    )
+-- what is known of the rows behind the next one
+abbrev EndsBehind : List (List ℕ) → List (List ℕ) → OpenFault → Type 0
+EndsBehind taken rows fault = (h : History) → opening taken ≡ Ok h → refused_from row_refusal taken rows ≡ Some fault
+    → opening_from (length taken) h rows ≡ Err fault
 
--- what holds of the told rows, by two things that do
-pub both : {A : Type 0} {P Q S : A → Type 0} (told : Option A) → IfSome told P → IfSome told Q → ((kept : A) → P kept → Q kept → S kept) → IfSome told S
-both None p q f = p
-both (Some kept) p q f = f kept p q
+next_read : (taken rows : List (List ℕ)) (row : List ℕ) (h : History) (fault : OpenFault) (what : Record) → opening taken ≡ Ok h → record_reading row ≡ Ok what
+    → EndsBehind (taken ++ row ∷ []) rows fault
+    → refused_or (refusal_behind h (Ok what)) (length taken) (refused_from row_refusal (taken ++ row ∷ []) rows) ≡ Some fault
+    → opening_from (length taken) h (row ∷ rows) ≡ Err fault
+next_read taken rows row h fault what spelled reads ends first =
+    ⊎_elim
+    (λ may.
+    let later : refused_from row_refusal (taken ++ row ∷ []) rows ≡ Some fault =
+    sym (ap (λ o. refused_or o (length taken) (refused_from row_refusal (taken ++ row ∷ []) rows)) (cond-true (may_be_next h what) None (Some Misplaced) may)) ∙ first in
+    let more = length-append taken (row ∷ []) in
+    let count : length taken + 1 ≡ length (taken ++ row ∷ []) = omega (arith, more) in
+    reads_on (length taken) h row what rows reads may
+    ∙ ap (λ n. opening_from n (and_read h what) rows) count
+    ∙ ends (and_read h what) (opening_more 0 (start empty_base) h taken row what spelled reads may) later)
+    (λ may.
+    let here : Some (Unlawful (length taken)) ≡ Some fault =
+    sym (ap (λ o. refused_or o (length taken) (refused_from row_refusal (taken ++ row ∷ []) rows)) (cond-false (may_be_next h what) None (Some Misplaced) may)) ∙ first in
+    let same : Unlawful (length taken) ≡ fault = cc in
+    is_unlawful (length taken) h row what rows reads may ∙ ap (λ f. Err f) same)
+    (cases_Bool (may_be_next h what))
+
+next_ends : (taken rows : List (List ℕ)) (row : List ℕ) (h : History) (fault : OpenFault) (reading : Result Record RowFault) → opening taken ≡ Ok h → record_reading row ≡ reading
+    → EndsBehind (taken ++ row ∷ []) rows fault
+    → refused_or (refusal_behind h reading) (length taken) (refused_from row_refusal (taken ++ row ∷ []) rows) ≡ Some fault
+    → opening_from (length taken) h (row ∷ rows) ≡ Err fault
+next_ends taken rows row h fault (Ok what) spelled reads ends first = next_read taken rows row h fault what spelled reads ends first
+next_ends taken rows row h fault (Err (Bad place)) spelled reads ends first =
+    let here : Some (BadRow (length taken) place) ≡ Some fault = first in
+    let same : BadRow (length taken) place ≡ fault = cc in
+    is_bad (length taken) place h row rows reads ∙ ap (λ f. Err f) same
+next_ends taken rows row h fault (Err NoMemoryToRead) spelled reads ends first =
+    absurd (none-some fault (sym (none_behind (taken ++ row ∷ []) rows NoMemory (unread_more taken row h spelled reads)) ∙ first))
+
+-- what is refused first is where the opening ends
+ends_at : (taken rows : List (List ℕ)) (fault : OpenFault) → EndsBehind taken rows fault
+ends_at taken [] fault h spelled first = absurd (none-some fault first)
+ends_at taken (row ∷ rows) fault h spelled first =
+    next_ends taken rows row h fault (record_reading row) spelled refl (ends_at (taken ++ row ∷ []) rows fault)
+    (sym (ap (λ o. refused_or (refusal_after o row) (length taken) (refused_from row_refusal (taken ++ row ∷ []) rows)) spelled) ∙ first)
+
+ends_first : (rows : List (List ℕ)) (fault : OpenFault) → first_refused row_refusal rows ≡ Some fault → opening rows ≡ Err fault
+ends_first rows fault first = ends_at [] rows fault (start empty_base) refl first
 
 module _ {T R : Type 0} (tree_stands : T → Contents → Type 0) where
-  -- the state stands for the history of the rows before the index
-  pub record HasOpened (state : UserState T R) (h : History) (told : Option (List (List ℕ))) (index limit : ℕ) : Type 0 where
-    pub stands : StandsFor tree_stands state h
-    pub rows : state.rows ≡ index
-    pub quota : state.quota ≡ limit
-    pub whole : h.base ≡ empty_base
-    pub nobody : h ≡ by_nobody h
-    pub told_rows : IfSome told (IsUnderWay index h)
+  abbrev Makes : UserState T R → List (List ℕ) → Type 0
+  Makes state rows = IsMadeOf tree_stands state rows
 
-  is_opened : (state : UserState T R) (h : History) (kept : List (List ℕ)) (index : ℕ) → length kept ≤ index → StandsFor tree_stands state h
-      → IsUnderWay index h kept → Opened tree_stands state kept
-  is_opened state h kept index all stands before = record {
-    history = h;
-    spelled = before.left ∙ ap (opening_from index h) (drop_past kept index all);
-    rows = all_rows h kept index all before;
+  -- ---- one row
+
+  pub made_of_none : (state : UserState T R) → StandsFor tree_stands state (start empty_base) → IsMadeOf tree_stands state []
+  made_of_none state stands = record {
+    history = start empty_base;
+    spelled = refl;
+    rows = refl;
+    whole = refl;
+    nobody = refl;
     stands = stands;
   }
 
-  -- all rows were read, and no history stands before theirs
-  pub all_anew : (state : UserState T R) (h : History) (told : Option (List (List ℕ))) (index limit : ℕ) → HasOpened state h told index limit
-      → IfSome told (λ kept. length kept ≤ index) → StandsAnew tree_stands state told
-  all_anew state h told index limit before all = record {
-    history = h;
-    stands = before.stands;
-    whole = before.whole;
-    nobody = before.nobody;
-    rows = both told before.told_rows all (λ kept under ended. all_rows h kept index ended under);
+  made_of_more : (state new : UserState T R) (rows : List (List ℕ)) (row : List ℕ) (what : Record) (m : IsMadeOf tree_stands state rows)
+      → record_reading row ≡ Ok what → spelling what ≡ row → may_be_next m.history what ≡ true → StandsFor tree_stands new (and_read m.history what)
+      → IsMadeOf tree_stands new (rows ++ row ∷ [])
+  made_of_more state new rows row what m reads spelled may stands = record {
+    history = and_read m.history what;
+    spelled = opening_more 0 (start empty_base) m.history rows row what m.spelled reads may;
+    rows = ap (λ kept. kept ++ row ∷ []) m.rows ∙ ap (λ last. rows_of m.history ++ last ∷ []) (sym spelled) ∙ sym (rows_more m.history 0 what);
+    whole = m.whole;
+    nobody = ap (λ (h : History). and_read h what) m.nobody ∙ nobody_more m.history 0 what;
+    stands = stands;
   }
 
-  -- all rows were read
-  pub all_opened : (state : UserState T R) (h : History) (told : Option (List (List ℕ))) (index limit : ℕ) → HasOpened state h told index limit
-      → IfSome told (λ kept. length kept ≤ index) → IfSome told (Opens tree_stands (Ok state))
-  all_opened state h None index limit before all = before.told_rows
-  all_opened state h (Some kept) index limit before all = is_opened state h kept index all before.stands before.told_rows
+  -- what a row is refused for, behind the rows that made the state
+  refusal_here : (state : UserState T R) (rows : List (List ℕ)) (row : List ℕ) (m : IsMadeOf tree_stands state rows) → row_refusal rows row ≡ refusal_behind m.history (record_reading row)
+  refusal_here state rows row m = ap (λ o. refusal_after o row) m.spelled
 
-  -- ---- the rows of a run, one after another
+  -- a row that was read, and whose record was taken or refused
+  pub takes_read : (state new : UserState T R) (result : Result (Unit {0}) TakeFault) (rows : List (List ℕ)) (row : List ℕ) (what : Record)
+      → record_reading row ≡ Ok what → spelling what ≡ row → ((h : History) → StandsFor tree_stands state h → TakesRecord tree_stands new result h what)
+      → IsMadeOf tree_stands state rows → TakesNext row_refusal Makes new result rows row
+  takes_read state new (Ok done) rows row what reads spelled takes m =
+      let taken = takes m.history m.stands in (
+        refusal_here state rows row m ∙ ap (refusal_behind m.history) reads ∙ cond-true (may_be_next m.history what) None (Some Misplaced) taken.0,
+        made_of_more state new rows row what m reads spelled taken.0 taken.1,
+      )
+  takes_read state new (Err (Refused why)) rows row what reads spelled takes m =
+      let taken = takes m.history m.stands in
+      refusal_here state rows row m ∙ ap (refusal_behind m.history) reads ∙ cond-false (may_be_next m.history what) None (Some Misplaced) taken.1
+      ∙ ap (λ w. Some w) (sym taken.0)
+  takes_read state new (Err NoMemoryToTake) rows row what reads spelled takes m = tt
 
-  pub none_taken : (state : UserState T R) (index : ℕ) (h : History) → StandsFor tree_stands state h → TakenRun tree_stands state [] index h
-  none_taken state index h stands =
-      let same : index ≡ index + length {A = List ℕ} [] = omega arith in
-      record {
-        history = h;
-        left = λ rest. ap (λ n. opening_from n h rest) same;
-        rows = sym (append-nil (rows_of h));
-        base = refl;
-        nobody = λ is. is;
-        stands = stands;
-      }
+  -- ---- all rows
 
-  -- one row more was taken
-  pub more_taken : (state new : UserState T R) (run : List (List ℕ)) (row : List ℕ) (index : ℕ) (h : History) (what : Record)
-      → (t : TakenRun tree_stands state run index h) → record_reading row ≡ Ok what → row ≡ spelling what → may_be_next t.history what ≡ true
-      → StandsFor tree_stands new (and_read t.history what) → TakenRun tree_stands new (run ++ row ∷ []) index h
-  more_taken state new run row index h what t reads spelled may stands =
-      let more = length-append run (row ∷ []) in
-      let count : index + length run + 1 ≡ index + length (run ++ row ∷ []) = omega (arith, more) in
-      record {
-        history = and_read t.history what;
-        left = λ rest.
-            ap (opening_from index h) (append_assoc run (row ∷ []) rest)
-            ∙ t.left (row ∷ rest)
-            ∙ reads_on (index + length run) t.history row what rest reads may
-            ∙ ap (λ n. opening_from n (and_read t.history what) rest) count;
-        rows = rows_more t.history what ∙ ap (λ rows. rows ++ spelling what ∷ []) t.rows ∙ append_assoc (rows_of h) run (spelling what ∷ [])
-            ∙ ap (λ one. rows_of h ++ (run ++ one ∷ [])) (sym spelled);
-        base = t.base;
-        nobody = λ before. ap (λ (x : History). and_read x what) (t.nobody before) ∙ nobody_more t.history 0 what;
-        stands = stands;
-      }
+  opens_kept : (result : Result (UserState T R) OpenFault) (kept : List (List ℕ)) → OpensKeptRows row_refusal Makes result kept → Opens tree_stands result kept
+  opens_kept (Ok state) kept opened =
+      let m = opened.1 in
+      record { history = m.history; spelled = m.spelled; rows = (m.rows, m.spelled ∙ ap (λ h. Ok h) m.nobody); stands = m.stands }
+  opens_kept (Err (BadRow index place)) kept opened = ends_first kept (BadRow index place) opened
+  opens_kept (Err (Unlawful index)) kept opened = ends_first kept (Unlawful index) opened
+  opens_kept (Err KeeperFailed) kept opened = tt
+  opens_kept (Err NoMemory) kept opened = tt
 
-  -- the next row was refused, whatever rows of the run are behind it
-  pub next_refused : (state new : UserState T R) (run later : List (List ℕ)) (row : List ℕ) (index : ℕ) (h : History) (fault : OpenFault)
-      → (t : TakenRun tree_stands state run index h) → TakesRow tree_stands new (Err fault) row (index + length run) t.history
-      → TakesRun tree_stands new (Err fault) (run ++ row ∷ later) index h
-  next_refused state new run later row index h (BadRow at place) t takes = λ rest.
-      ap (opening_from index h) (append_assoc run (row ∷ later) rest)
-      ∙ t.left (row ∷ later ++ rest)
-      ∙ is_bad (index + length run) place t.history row (later ++ rest) takes.1
-      ∙ ap (λ n. Err (BadRow n place)) (sym takes.0)
-  next_refused state new run later row index h (Unlawful at) t takes = λ rest.
-      ap (opening_from index h) (append_assoc run (row ∷ later) rest)
-      ∙ t.left (row ∷ later ++ rest)
-      ∙ is_unlawful (index + length run) t.history row takes.1.0 (later ++ rest) takes.1.1 takes.1.2
-      ∙ ap (λ n. Err (Unlawful n)) (sym takes.0)
-  next_refused state new run later row index h KeeperFailed t takes = absurd takes
-  next_refused state new run later row index h NoMemory t takes = tt
+  pub opens_told : (result : Result (UserState T R) OpenFault) (told : Option (List (List ℕ))) → IfSome told (OpensKeptRows row_refusal Makes result)
+      → IfSome told (Opens tree_stands result)
+  opens_told result None opened = opened
+  opens_told result (Some kept) opened = opens_kept result kept opened
 
-  -- the row at the next place of a run was taken
-  pub taken_at : (state new : UserState T R) (run : List (List ℕ)) (place : ℕ) (row : List ℕ) (index : ℕ) (h : History) (what : Record) → IsRowAt run place row
-      → (t : TakenRun tree_stands state (take place run) index h) → record_reading row ≡ Ok what → row ≡ spelling what → may_be_next t.history what ≡ true
-      → StandsFor tree_stands new (and_read t.history what) → TakenRun tree_stands new (take (place + 1) run) index h
-  taken_at state new run place row index h what here t reads spelled may stands =
-      let front : take (place + 1) run ≡ take place run ++ row ∷ [] = take_more run place [] here.within ∙ ap (λ one. take place run ++ one ∷ []) (sym here.is) in
-      subst (λ xs. TakenRun tree_stands new xs index h) (sym front) (more_taken state new (take place run) row index h what t reads spelled may stands)
+  -- rows that made the state, so many
+  abbrev pub IsMadeOfSome : ℕ → UserState T R → Type 0
+  IsMadeOfSome count state = (rows : List (List ℕ)) × IsMadeOf tree_stands state rows × (length rows ≡ count)
 
-  -- it was refused
-  pub refused_at : (state new : UserState T R) (run : List (List ℕ)) (place : ℕ) (row : List ℕ) (index : ℕ) (h : History) (fault : OpenFault) → IsRowAt run place row
-      → (t : TakenRun tree_stands state (take place run) index h) → TakesRow tree_stands new (Err fault) row (index + place) t.history
-      → TakesRun tree_stands new (Err fault) run index h
-  refused_at state new run place row index h fault here t takes =
-      let whole : take place run ++ row ∷ drop (place + 1) run ≡ run =
-      ap (λ one. take place run ++ one ∷ drop (place + 1) run) here.is
-      ∙ sym (at_drop_more (λ later. take place run ++ later) run place [] here.within)
-      ∙ take-append-drop place run in
-      let few : place ≤ length run = (let within = here.within in omega (arith, within)) in
-      let at = subst (λ n. TakesRow tree_stands new (Err fault) row (index + n) t.history) (sym (length-take-le place run few)) takes in
-      subst (λ xs. TakesRun tree_stands new (Err fault) xs index h) whole
-      (next_refused state new (take place run) (drop (place + 1) run) row index h fault t at)
+  stands_anew : (state : UserState T R) (count : ℕ) (told : Option (List (List ℕ))) → IsMadeOfSome count state
+      → IfSome told (OpensKeptRows row_refusal Makes (Ok state)) → StandsAnew tree_stands state told
+  stands_anew state count None made opened =
+      record { history = made.1.history; stands = made.1.stands; whole = made.1.whole; nobody = made.1.nobody; rows = tt }
+  stands_anew state count (Some kept) made opened =
+      let m = opened.1 in
+      record { history = m.history; stands = m.stands; whole = m.whole; nobody = m.nobody; rows = (m.rows, m.spelled ∙ ap (λ h. Ok h) m.nobody) }
 
-  -- ---- run by run
+  pub begun : (result : Result (UserState T R) OpenFault) (count : ℕ) (told : Option (List (List ℕ))) → IfOk result (IsMadeOfSome count)
+      → IfSome told (OpensKeptRows row_refusal Makes result) → IfOk result (λ state. StandsAnew tree_stands state told)
+  begun (Ok state) count told made opened = stands_anew state count told made opened
+  begun (Err fault) count told made opened = tt
 
-  -- one run more was taken
-  pub more_opened : (state new : UserState T R) (h : History) (told : Option (List (List ℕ))) (index limit count : ℕ) (run : List (List ℕ))
-      → HasOpened state h told index limit → IfSome told (λ kept. RunAt kept index count run) → count ≡ length run
-      → (t : TakenRun tree_stands new run index h) → new.rows ≡ state.rows + count → new.quota ≡ state.quota
-      → HasOpened new t.history told (index + count) limit
-  more_opened state new h told index limit count run before found long t counted quota = record {
-    stands = t.stands;
-    rows = counted ∙ ap (λ n. n + count) before.rows;
-    quota = quota ∙ before.quota;
-    whole = t.base ∙ before.whole;
-    nobody = t.nobody before.nobody;
-    told_rows = both told before.told_rows found (λ kept under is. under_way index count h t.history kept run long t.left t.rows t.nobody under is);
-  }
+  pub stands_made : (result : Result (UserState T R) OpenFault) (count : ℕ) → IfOk result (IsMadeOfSome count)
+      → IfOk result (λ state. (h : History) × StandsFor tree_stands state h)
+  stands_made (Ok state) count made = (made.1.history, made.1.stands)
+  stands_made (Err fault) count made = tt
 
-  -- a row of a run was refused
-  pub refused : (state : UserState T R) (h : History) (told : Option (List (List ℕ))) (index count : ℕ) (run : List (List ℕ)) (fault : OpenFault)
-      → IfSome told (IsUnderWay index h) → IfSome told (λ kept. RunAt kept index count run) → TakesRun tree_stands state (Err fault) run index h
-      → IfSome told (Opens {R = R} tree_stands (Err fault))
-  refused state h told index count run (BadRow at place) before found takes =
-      both told before found (λ kept under is. under.left ∙ ap (opening_from index h) (left_of kept index count run is) ∙ takes (drop (index + count) kept))
-  refused state h told index count run (Unlawful at) before found takes =
-      both told before found (λ kept under is. under.left ∙ ap (opening_from index h) (left_of kept index count run is) ∙ takes (drop (index + count) kept))
-  refused state h told index count run KeeperFailed before found takes = absurd takes
-  refused state h told index count run NoMemory before found takes = both told before found (λ kept under is. tt)
+  pub counted : (result : Result (UserState T R) OpenFault) (count : ℕ) → IfOk result (IsMadeOfSome count) → IfOk result (λ state. state.rows ≡ count)
+  counted (Ok state) count made =
+      made.1.stands.rows
+      ∙ sym (length-map made.1.history.entries (λ (e : LogEntry Record). spelling e.what))
+      ∙ ap length (sym made.1.rows)
+      ∙ made.2
+  counted (Err fault) count made = tt

@@ -10,8 +10,8 @@ use Rattle.rs_face.specs.Rows.{with_rows}
 use Rattle.rs_record.specs.declared.records.Record.{Record}
 use Rattle.rs_record.specs.Rows.{spelling}
 use Rattle.rs_record.specs.RowReadings.{record_reading}
-use Rattle.rs_rules.specs.declared.open_fault.OpenFault.{OpenFault}
-use Rattle.rs_rules.specs.declared.open_fault.OpenFault.TheVariants.{Unlawful}
+use Rattle.rs_row.specs.declared.open_fault.OpenFault.{OpenFault}
+use Rattle.rs_row.specs.declared.open_fault.OpenFault.TheVariants.{Unlawful}
 use Rattle.rs_rules.specs.Limits.{max_len}
 use Rattle.rs_rules.specs.Histories.{History, start, empty_base, len, with_entry, with_entries, replay}
 use Rattle.rs_rules.specs.Documents.{docs, docs_after, doc_in}
@@ -83,7 +83,7 @@ bind_more : (f g : History → Result History OpenFault) (first : Result History
 bind_more f g (Ok x) now after more is = more x is
 bind_more f g (Err fault) now after more is = cc
 
-opening_more : (index : ℕ) (h now : History) (rows : List (List ℕ)) (row : List ℕ) (what : Record) → opening_from index h rows ≡ Ok now
+pub opening_more : (index : ℕ) (h now : History) (rows : List (List ℕ)) (row : List ℕ) (what : Record) → opening_from index h rows ≡ Ok now
     → record_reading row ≡ Ok what → may_be_next now what ≡ true
     → opening_from index h (rows ++ row ∷ []) ≡ Ok (with_entry now (record { who = 0; what = what }))
 unfolding history_or
@@ -96,7 +96,7 @@ opening_more index h now (first ∷ rows) row what is reads may =
     bind_more (λ x. opening_from (index + 1) x rows) (λ x. opening_from (index + 1) x (rows ++ row ∷ [])) (with_reading index h (record_reading first))
     now (with_entry now (record { who = 0; what = what })) (λ x same. opening_more (index + 1) x now rows row what same reads may) is
 
-rows_more : (h : History) (who : ℕ) (what : Record) → rows_of (with_entry h (record { who = who; what = what })) ≡ rows_of h ++ spelling what ∷ []
+pub rows_more : (h : History) (who : ℕ) (what : Record) → rows_of (with_entry h (record { who = who; what = what })) ≡ rows_of h ++ spelling what ∷ []
 rows_more h who what = map-append (λ (e : LogEntry Record). spelling e.what) h.entries (record { who = who; what = what } ∷ [])
 
 -- rows of a history, and the row of one record more, which is read as the record

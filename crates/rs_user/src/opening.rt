@@ -1,19 +1,20 @@
 //! Rows opened as a state.
 
-ghost use Rattle.std.specs.Prelude.{◌≡◌, ◌+◌, ◌<◌, ◌^◌, true, length, map, IfOk, IfSome, OnOk};
+ghost use Rattle.std.specs.Prelude.{◌≡◌, true, IfOk, IfSome, OnOk};
 ghost use Rattle.rs_face.specs.Causes.{HasCause};
 ghost use Rattle.rs_record.specs.Records.{body_limit};
 ghost use Rattle.rs_rules.specs.Histories.{History, with_entry};
 ghost use Rattle.rs_rules.specs.Snapshots.{snapshot};
 ghost use Rattle.rs_rules.specs.Lawful.{may_follow, writer_may};
 ghost use Rattle.rs_user.specs.Standing.{StandsFor};
-ghost use Rattle.rs_user.specs.Openings.{may_be_next, Opens, StandsAnew, TakesRun, TakesRow, TakesRecord};
+ghost use Rattle.rs_user.specs.Openings.{may_be_next, row_refusal, IsMadeOf, Opens, StandsAnew, TakesRecord};
 
 use crate::state::UserState;
-use rs_face::{KeepFault, Keeper};
+use rs_face::Keeper;
 use rs_path::{MAX_BODY, MAX_PLAIN_BODY, NoMemory, Path};
-use rs_record::{Record, RecordFault, decode};
-use rs_rules::{MAX_LEN, OpenFault, Tree, lawful_laws};
+use rs_record::{Record, decode};
+use rs_row::{OpenFault, Refusal, Replayed, RowFault, TakeFault, open_rows};
+use rs_rules::{MAX_LEN, Tree, lawful_laws};
 use rs_scope::{Method, Token, reaches};
 use std::alloc::Global;
 
@@ -42,65 +43,20 @@ impl<T: Tree> UserState<T> {
         ensures len { K.row_count keeper.new ≡ K.row_count keeper.old }
         ensures cause { HasCause (K.faults keeper.old) (K.faults keeper.new) OpenFault.KeeperFailed result }
     {
-        let mut state = UserState::new(alloc, quota)?;
-        let total = keeper.len();
-        let mut run = Vec::new(alloc);
-        let mut index = 0;
-        while index < total {
-            match keeper.read_run(index, &mut run) {
-                Ok(()) => {}
-                Err(KeepFault::Failed) => return Err(OpenFault::KeeperFailed),
-                Err(KeepFault::NoMemory) => return Err(OpenFault::NoMemory),
-            }
-            match state.take_run(index, run.as_slice()) {
-                Ok(()) => {}
-                Err(fault) => return Err(fault),
-            }
-            index += run.len() as u64;
-        }
-        Ok(state)
-    }
-
-    // Takes the records that a run of rows spells, one after another. The first row has the index.
-    fn take_run(&mut self, index: u64, run: &[Vec<u8>]) -> Result<(), OpenFault>
-        requires stands { (h : History) × StandsFor T.stands self.old h }
-        requires fits { index + length run.now < 2 ^ 64 }
-        ensures taken { (h : History) → StandsFor T.stands self.old h → TakesRun T.stands self.new result (map (λ row. row.items) run.now) index h }
-        ensures counted { OnOk result (self.new.rows ≡ self.old.rows + length run.now) }
-        ensures quota { self.new.quota ≡ self.old.quota }
-    {
-        for place in 0..run.len() {
-            match self.take_row(index + place as u64, run[place].as_slice()) {
-                Ok(()) => {}
-                Err(fault) => return Err(fault),
-            }
-        }
-        Ok(())
-    }
-
-    // Takes the record that a row spells, as one that stood there before.
-    fn take_row(&mut self, index: u64, row: &[u8]) -> Result<(), OpenFault>
-        requires stands { (h : History) × StandsFor T.stands self.old h }
-        ensures taken { (h : History) → StandsFor T.stands self.old h → TakesRow T.stands self.new result row.now index h }
-        ensures counted { OnOk result (self.new.rows ≡ self.old.rows + 1) }
-        ensures quota { self.new.quota ≡ self.old.quota }
-    {
-        match decode(self.granted.allocator(), row) {
-            Ok(what) => self.take(index, what),
-            Err(RecordFault::Bad { place }) => Err(OpenFault::BadRow { index, place }),
-            Err(RecordFault::NoMemory) => Err(OpenFault::NoMemory),
-        }
+        let nothing = UserState::new(alloc, quota)?;
+        open_rows(alloc, keeper, nothing)
     }
 
     // Takes a record, if some request adds it.
-    fn take(&mut self, index: u64, what: Record) -> Result<(), OpenFault>
+    fn take(&mut self, what: Record) -> Result<(), TakeFault>
         requires stands { (h : History) × StandsFor T.stands self.old h }
-        ensures taken { (h : History) → StandsFor T.stands self.old h → TakesRecord T.stands self.new result index h what }
-        ensures counted { OnOk result (self.new.rows ≡ self.old.rows + 1) }
+        ensures taken { (h : History) → StandsFor T.stands self.old h → TakesRecord T.stands self.new result h what }
         ensures quota { self.new.quota ≡ self.old.quota }
     {
         if !self.may_be_next(&what) {
-            return Err(OpenFault::Unlawful { index });
+            return Err(TakeFault::Refused {
+                why: Refusal::Misplaced,
+            });
         }
         self.add(what)?;
         Ok(())
@@ -111,7 +67,6 @@ impl<T: Tree> UserState<T> {
         requires may { (h : History) × StandsFor T.stands self.old h × (may_be_next h what ≡ true) }
         ensures added { (h : History) → StandsFor T.stands self.old h → may_be_next h what ≡ true
             → OnOk result (StandsFor T.stands self.new (with_entry h (record { who = 0; what = what }))) }
-        ensures counted { OnOk result (self.new.rows ≡ self.old.rows + 1) }
         ensures quota { self.new.quota ≡ self.old.quota }
     {
         lawful_laws();
@@ -176,6 +131,24 @@ impl<T: Tree> UserState<T> {
                 None => false,
                 Some(scopes) => reaches(scopes, method, path),
             },
+        }
+    }
+}
+
+impl<T: Tree> Replayed for UserState<T> {
+    ghost refusal = { row_refusal };
+
+    ghost made_of = { λ state rows. IsMadeOf T.stands state rows };
+
+    ghost setting = { λ state. state.quota };
+
+    fn take_row(&mut self, row: &[u8]) -> Result<(), TakeFault> {
+        match decode(self.granted.allocator(), row) {
+            Ok(what) => self.take(what),
+            Err(RowFault::Bad { place }) => Err(TakeFault::Refused {
+                why: Refusal::Bad { place },
+            }),
+            Err(RowFault::NoMemory) => Err(TakeFault::NoMemory),
         }
     }
 }

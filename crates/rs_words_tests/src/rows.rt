@@ -2,7 +2,8 @@
 //! memory answers.
 
 use rs_path::{Bytes, Kind, Path};
-use rs_record::{Record, RecordFault, decode, encode, encode_put};
+use rs_record::{Record, decode, encode, encode_put};
+use rs_row::RowFault;
 use rs_scope::{Scopes, Token};
 use std::alloc::Global;
 use std::test::Fail;
@@ -24,7 +25,7 @@ const WRITTEN_REMOVE: &[u8] =
 
 fn place_of(alloc: Global, row: &[u8]) -> Option<usize> {
     match decode(alloc, row) {
-        Err(RecordFault::Bad { place }) => Some(place as usize),
+        Err(RowFault::Bad { place }) => Some(place as usize),
         _ => None,
     }
 }

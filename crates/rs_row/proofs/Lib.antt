@@ -1,0 +1,4 @@
+pub mod Cited
+mod FieldLemmas
+mod CanonLemmas
+mod OpeningLemmas
