@@ -1,0 +1,7 @@
+mod HallLemmas
+mod ListLemmas
+mod MeetLemmas
+mod OneLemmas
+mod ReturnLemmas
+mod RunLemmas
+mod StaffLemmas

@@ -1,0 +1,4 @@
+pub mod OneHistories
+pub mod Runs
+pub mod Servings
+pub mod Staffs

@@ -1,0 +1,2 @@
+pub mod ServeRuns
+pub mod ServeCompleteness
