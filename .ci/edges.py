@@ -178,12 +178,43 @@ def flipped_bits():
             wrong(f"the row as it was: status {code}, {note}")
 
 
+def version_of(folder, version=None):
+    """The user version of rows.db; with another one it is set before."""
+    with sqlite3.connect(os.path.join(folder, "rows.db")) as database:
+        if version is not None:
+            database.execute(f"PRAGMA user_version = {version}")
+        found = database.execute("PRAGMA user_version").fetchone()[0]
+    database.close()
+    return found
+
+
+def marks():
+    """rows.db says what it is; a file that says something else is refused, and one that says nothing is taken and says it then."""
+    mark = 0x72730001
+    with tempfile.TemporaryDirectory() as folder:
+        pipe(folder, put("/a/b", b"a body"))
+        if version_of(folder) != mark:
+            wrong(f"the user version of a new file is {version_of(folder):#x}")
+        for other in [mark + 1, 7]:
+            version_of(folder, other)
+            refused(f"a file with the user version {other}", folder, [3])
+            if version_of(folder) != other:
+                wrong(f"a file that was refused has now the user version {version_of(folder):#x}")
+        version_of(folder, 0)
+        code, out, note = pipe(folder, head("GET", "/a/b"))
+        if code != 0 or not out.endswith(b"a body"):
+            wrong(f"a file without a user version: status {code}, {note}")
+        if version_of(folder) != mark:
+            wrong(f"a file that had no user version has {version_of(folder):#x}")
+
+
 great_bodies()
 long_listing()
 deep_path()
 places()
 if sqlite3:
     flipped_bits()
+    marks()
 else:
-    print("edges.py: no sqlite3 of python, so no flipped bit was tried")
+    print("edges.py: no sqlite3 of python, so no changed file was tried")
 sys.exit(failed)

@@ -1,1 +1,3 @@
+mod SendLemmas
+mod StaffLemmas
 mod WantLemmas

@@ -1,17 +1,68 @@
-//! The rows of a user, in the database file `rows.db` of the present folder.
+//! The rows of a user in a database file: `rows.db` of the present folder, or another.
 
 ghost use Rattle.std.specs.Prelude.{◌≡◌, IfOk};
 
 use crate::running::RowsPlace;
+use crate::serving::UserFiles;
 use rs_face::{KeepFault, Keeper};
-use rs_sqlite::SqlKeeper;
-use sqlite::{Connection, Error, ErrorCode, File, FileStore, Options, Unknown};
+use rs_sqlite::{FileKind, SqlKeeper, open_files};
+use sqlite::{File, FileStore, Options, Unknown};
 use sqlite_std_file::{OpenError, open};
 use std::hash::{BuildHasher, RandomState};
 use std::io::ErrorKind;
 
-/// A keeper of the rows of a file.
-pub type FileRows = SqlKeeper<FileStore<File>>;
+/// A keeper of the rows of a file. It tells no rows, since any disk may lie.
+// A type of its own, so that what generic functions know of it isn't proved anew of all parts of SQLite in each of them.
+#[derive(Drop)]
+pub struct FileRows {
+    keeper: SqlKeeper<FileStore<File>>,
+}
+
+impl FileRows {
+    // Goes on with this count of faults.
+    fn with_faults(self, faults: u64) -> FileRows
+        ensures faults { result.keeper.faults ≡ faults }
+    {
+        FileRows {
+            keeper: self.keeper.with_faults(faults),
+        }
+    }
+
+    // How many reads and appends failed so far.
+    fn faults(&self) -> u64
+        ensures faults { result ≡ self.now.keeper.faults }
+    {
+        self.keeper.faults()
+    }
+}
+
+impl Keeper for FileRows {
+    ghost use Rattle.std.specs.Prelude.{None};
+
+    ghost rows = { λ _. None };
+
+    ghost row_count = { λ f. f.keeper.rows };
+
+    ghost faults = { λ f. f.keeper.faults };
+
+    ghost counted = { λ _. tt };
+
+    fn len(&self) -> u64 {
+        self.keeper.len()
+    }
+
+    fn read(&mut self, i: u64, out: &mut Vec<u8>) -> Result<(), KeepFault> {
+        self.keeper.read(i, out)
+    }
+
+    fn read_run(&mut self, i: u64, out: &mut Vec<Vec<u8>>) -> Result<(), KeepFault> {
+        self.keeper.read_run(i, out)
+    }
+
+    fn append(&mut self, row: &[u8]) -> Result<(), KeepFault> {
+        self.keeper.append(row)
+    }
+}
 
 /// How many pages of the file are kept in memory. They are enough for the way to a row, and a run reads each row once.
 const CACHE_PAGES: usize = 64;
@@ -47,7 +98,7 @@ impl RowsPlace for PresentFolder<'_> {
 
     fn open(&mut self) -> Result<FileRows, KeepFault> {
         self.is_opened = true;
-        match open_file(self.rt) {
+        match open_rows(self.rt, "rows.db") {
             Ok(rows) => Ok(rows.with_faults(self.faults)),
             Err(KeepFault::Failed) => {
                 self.faults = self.faults.saturating_add(1);
@@ -60,17 +111,39 @@ impl RowsPlace for PresentFolder<'_> {
     /// Where this fails, what was kept is in the log beside the file, and the next opening takes it.
     fn close(&mut self, rows: FileRows) {
         self.faults = rows.faults();
-        let _ = rows.into_connection().close();
+        close_rows(rows);
     }
 }
 
-fn open_file(rt: &HostRuntime) -> Result<FileRows, KeepFault> {
-    SqlKeeper::open(connect(rt)?)
+/// The files of the system.
+#[derive(Drop)]
+pub struct SystemFiles<'a> {
+    rt: &'a HostRuntime,
 }
 
-// Opens the file with few pages in memory: `Connection::open` would take room for 2,000, 8 MiB, at once.
-fn connect(rt: &HostRuntime) -> Result<Connection<FileStore<File>>, KeepFault> {
-    let files = match open(rt, "rows.db", Unknown) {
+impl<'a> SystemFiles<'a> {
+    pub fn new(rt: &'a HostRuntime) -> SystemFiles<'a> {
+        SystemFiles { rt }
+    }
+}
+
+impl UserFiles for SystemFiles<'_> {
+    type Rows = FileRows;
+
+    fn open(&self, name: &str) -> Result<FileRows, KeepFault> {
+        open_rows(self.rt, name)
+    }
+
+    fn close(&self, rows: FileRows) {
+        close_rows(rows);
+    }
+}
+
+// Opens the rows of a user in this file, which are none where there is no such file yet. It is one program's at a time,
+// and a file of rows of another kind isn't opened.
+// With few pages in memory: `Connection::open` would take room for 2,000, 8 MiB, at once.
+fn open_rows(rt: &HostRuntime, name: &str) -> Result<FileRows, KeepFault> {
+    let files = match open(rt, name, Unknown) {
         Ok(files) => files,
         Err(OpenError::OutOfMemory) => return Err(KeepFault::NoMemory),
         Err(OpenError::Io(error)) if error.kind() == ErrorKind::OutOfMemory => {
@@ -85,9 +158,12 @@ fn connect(rt: &HostRuntime) -> Result<Connection<FileStore<File>>, KeepFault> {
         cache_pages: CACHE_PAGES,
         ..Options::new(state.hash_one(&0u8))
     };
-    match Connection::open_files(rt.alloc(), files, options) {
-        Ok(connection) => Ok(connection),
-        Err((Error::SqliteFailure(ErrorCode::OutOfMemory), _)) => Err(KeepFault::NoMemory),
-        Err(_) => Err(KeepFault::Failed),
-    }
+    Ok(FileRows {
+        keeper: open_files(rt.alloc(), files, options, FileKind::UserRows)?,
+    })
+}
+
+// Closes rows. Where this fails, what was kept is in the log beside the file, and the next opening takes it.
+fn close_rows(rows: FileRows) {
+    let _ = rows.keeper.into_connection().close();
 }

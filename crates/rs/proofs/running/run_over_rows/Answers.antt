@@ -1,5 +1,5 @@
 use Rattle.std.proofs.Common.{Err, refl, ap}
-use Rattle.rs_rules.specs.declared.open_fault.OpenFault.TheVariants.{KeeperFailed, NoMemory}
+use Rattle.rs_row.specs.declared.open_fault.OpenFault.TheVariants.{KeeperFailed, NoMemory}
 use Rattle.rs.proofs.WantLemmas.{ends_unopened}
 use Rattle.rs.proofs.running.run_over_rows.Goals as goal
 
