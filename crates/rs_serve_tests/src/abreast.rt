@@ -4,15 +4,16 @@ use crate::latch::Latch;
 use crate::objects::{ALICE, CREATED, FOUND, GET, GRANT_ROW, PUT, keeper, post, run};
 use rs_cli::Note;
 use rs_face::MemSink;
+use std::sync::Arc;
 use std::test::Fail;
 
 #[test]
 fn one_post_reads_what_another_has_written(rt: HostRuntime) -> Result<(), Fail> {
     let alloc = rt.alloc();
-    let latch = Latch::new();
+    let latch = Arc::new(alloc, Latch::new())?;
     let mut posts = Vec::new(alloc);
     posts.push(post(alloc, &[PUT], &[], None)?)?;
-    posts.push(post(alloc, &[GET], &[], Some(&latch))?)?;
+    posts.push(post(alloc, &[GET], &[], Some(Arc::try_clone(&latch)?))?)?;
     let mut keepers = Vec::new(alloc);
     keepers.push(keeper(alloc, &[GRANT_ROW])?)?;
     let mut sink = MemSink::new(Vec::new(alloc), Vec::new(alloc));
@@ -23,7 +24,7 @@ fn one_post_reads_what_another_has_written(rt: HostRuntime) -> Result<(), Fail> 
         ALICE,
         &mut posts,
         &mut keepers,
-        &latch,
+        &*latch,
         &mut sink,
     )?;
     assert_eq!(rt; end.status.note, Note::Empty);

@@ -2,16 +2,17 @@
 
 use crate::latch::Latch;
 use rs_face::{ListenFault, Listener, MemListener, MemSink, MemSource};
+use std::sync::Arc;
 
 /// The connections of a listener in memory, which come at once or once the latch is open.
 #[derive(Drop)]
-pub struct HeldListener<'a> {
+pub struct HeldListener {
     pub inner: MemListener,
     /// Whose turn is waited for. None where the connections come at once.
-    pub behind: Option<&'a Latch>,
+    pub behind: Option<Arc<Latch>>,
 }
 
-impl Listener for HeldListener<'_> {
+impl Listener for HeldListener {
     type In = MemSource;
 
     type Out = MemSink;
@@ -29,7 +30,7 @@ impl Listener for HeldListener<'_> {
     ghost faults = { λ s. s.inner.calls.faults };
 
     fn accept(&mut self) -> Result<Option<(MemSource, MemSink)>, ListenFault> {
-        if let Some(latch) = self.behind {
+        if let Some(latch) = &self.behind {
             latch.wait();
         }
         self.inner.accept()

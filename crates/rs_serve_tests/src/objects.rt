@@ -14,7 +14,7 @@ use rs_serve::Post;
 use rs_serve_cli::{ServeStatus, run_serve};
 use rs_work::NoWatch;
 use std::alloc::Global;
-use std::sync::Wait;
+use std::sync::{Arc, Wait};
 use std::test::Fail;
 use std::thread::Threads;
 
@@ -43,16 +43,16 @@ pub const GRANT_ROW: &[u8] =
     b"\x01\x03\x00\x01\x02\x03\x04\x05\x06\x07\x08\x09\x0a\x0b\x0c\x0d\x0e\x0f\x00\x04*:rw";
 
 /// A post of these tests.
-pub type TestPost<'a> = Post<HeldListener<'a>, MemEntropy>;
+pub type TestPost = Post<HeldListener, MemEntropy>;
 
 /// A post at whose connections these texts come in, once the latch is open where one is given. The calls of the listener with these
 /// numbers fail.
-pub fn post<'a>(
+pub fn post(
     alloc: Global,
     texts: &[&str],
     failing: &[u64],
-    behind: Option<&'a Latch>,
-) -> Result<TestPost<'a>, Fail> {
+    behind: Option<Arc<Latch>>,
+) -> Result<TestPost, Fail> {
     let mut connections = Vec::new(alloc);
     for text in texts {
         let source = MemSource::new(Vec::from_slice(alloc, text.as_bytes())?, Vec::new(alloc));
@@ -88,21 +88,24 @@ fn is_staffed(alloc: Global, text: &[u8], posts: usize, keepers: usize) -> bool
     ensures fits { result ≡ true → (config : ServeConfig) → ReadsConfig text.now (Ok config)
         → (keepers ≡ length config.front.accounts) × (0 < posts) × (posts ≤ 64) }
 {
+    if posts == 0 || 64 < posts {
+        return false;
+    }
     config_laws();
     match read_config(alloc, text) {
-        Ok(config) => config.rooms.len() == keepers && posts != 0 && posts <= 64,
+        Ok(config) => config.rooms.len() == keepers,
         Err(ConfigFault::NoMemory) => false,
         Err(ConfigFault::Toml | ConfigFault::Key { .. }) => true,
     }
 }
 
 /// Runs `serve` with these words and this file.
-pub fn run<'a, R: Threads + Wait + Sync, G: Gate + Sync, W: Sink>(
+pub fn run<R: Threads + Wait + Sync, G: Gate + Sync, W: Sink>(
     rt: &R,
     alloc: Global,
     line: &str,
     text: &str,
-    posts: &mut Vec<TestPost<'a>>,
+    posts: &mut Vec<TestPost>,
     keepers: &mut Vec<MemKeeper>,
     gate: &G,
     sink: &mut W,

@@ -37,7 +37,7 @@ struct Left {
 }
 
 fn left_by<R: Threads + Wait + Sync>(rt: &R, alloc: Global, case: &Case<'_>) -> Result<Left, Fail> {
-    let mut posts: Vec<TestPost<'_>> = Vec::new(alloc);
+    let mut posts: Vec<TestPost> = Vec::new(alloc);
     posts.push(post(alloc, case.texts, case.failing, None)?)?;
     let mut keepers: Vec<MemKeeper> = Vec::new(alloc);
     for rows in case.rows {
@@ -97,7 +97,7 @@ fn leaves(
 #[test]
 fn served_connections_are_counted(rt: HostRuntime) -> Result<(), Fail> {
     let alloc = rt.alloc();
-    let mut case = Case {
+    let case = Case {
         words: WORDS,
         file: ALICE,
         texts: &[PUT],
@@ -115,7 +115,14 @@ fn served_connections_are_counted(rt: HostRuntime) -> Result<(), Fail> {
         &[CREATED],
         &[2],
     )?;
-    case.texts = &[PUT, GET];
+    let case = Case {
+        words: WORDS,
+        file: ALICE,
+        texts: &[PUT, GET],
+        failing: &[],
+        sink_failing: &[],
+        rows: &[&[GRANT_ROW]],
+    };
     let left = left_by(&rt, alloc, &case)?;
     leaves(
         &rt,
@@ -126,7 +133,14 @@ fn served_connections_are_counted(rt: HostRuntime) -> Result<(), Fail> {
         &[CREATED, FOUND],
         &[2],
     )?;
-    case.texts = &[];
+    let case = Case {
+        words: WORDS,
+        file: ALICE,
+        texts: &[],
+        failing: &[],
+        sink_failing: &[],
+        rows: &[&[GRANT_ROW]],
+    };
     let left = left_by(&rt, alloc, &case)?;
     leaves(&rt, &left, Note::Empty, None, b"served 0\n", &[], &[1])
 }
@@ -162,7 +176,7 @@ fn words_and_files_are_refused_first(rt: HostRuntime) -> Result<(), Fail> {
 #[test]
 fn the_first_user_whose_rows_are_wrong_is_told(rt: HostRuntime) -> Result<(), Fail> {
     let alloc = rt.alloc();
-    let mut case = Case {
+    let case = Case {
         words: WORDS,
         file: BOTH,
         texts: &[PUT],
@@ -173,7 +187,14 @@ fn the_first_user_whose_rows_are_wrong_is_told(rt: HostRuntime) -> Result<(), Fa
     let left = left_by(&rt, alloc, &case)?;
     let note = Note::RowAt { index: 1, place: 1 };
     leaves(&rt, &left, note, Some(1), b"", &[], &[1, 2])?;
-    case.rows = &[&[GRANT_ROW, GRANT_ROW], &[b"\x01"]];
+    let case = Case {
+        words: WORDS,
+        file: BOTH,
+        texts: &[PUT],
+        failing: &[],
+        sink_failing: &[],
+        rows: &[&[GRANT_ROW, GRANT_ROW], &[b"\x01"]],
+    };
     let left = left_by(&rt, alloc, &case)?;
     let note = Note::RowUnlawful { index: 1 };
     leaves(&rt, &left, note, Some(0), b"", &[], &[2, 1])
