@@ -32,4 +32,4 @@ pub staffed_as : {N E K : Type 0} (posts : List (Post N E)) (keepers : List K) (
     → IsStaffed posts keepers words given
 staffed_as posts keepers words asked text given places kept asked_is given_is places_are kept_are fits = λ read config reads there.
     staffed_for posts keepers config places kept places_are kept_are
-      (fits config (subst (λ t. ReadsConfig t (Ok config)) (given_is ∙ sym asked_is) there))
+    (fits config (subst (λ t. ReadsConfig t (Ok config)) (given_is ∙ sym asked_is) there))
