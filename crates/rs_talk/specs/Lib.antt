@@ -1,0 +1,4 @@
+pub mod Limits
+pub mod Bearers
+pub mod Roots
+pub mod Changes

@@ -1,0 +1,16 @@
+//! The limits of what a client talks with, in bytes.
+
+ghost use Rattle.std.specs.Prelude.{◌≡◌};
+ghost use Rattle.rs_talk.specs.Limits.{max_bearer, max_root};
+
+/// The bytes of a bearer token.
+pub const MAX_BEARER: usize = 1_024;
+
+/// The bytes of the address of an account's root, as it is printed.
+pub const MAX_ROOT: usize = 1_024;
+
+/// The limits are these numbers. The function does nothing: its contract is the law.
+pub fn limit_laws()
+    ensures bearer { MAX_BEARER ≡ max_bearer }
+    ensures root { MAX_ROOT ≡ max_root }
+{}
