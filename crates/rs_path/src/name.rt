@@ -1,13 +1,15 @@
 //! Names of documents and folders.
 
-ghost use Rattle.std.specs.Prelude.{◌≡◌, ◌<◌, ◌≤◌, length, Some, None, IfOk, IsTrue, IsUtf8, if◌then◌else◌};
+ghost use Rattle.std.specs.Prelude.{◌≡◌, ◌<◌, ◌≤◌, ◌++◌, length, Some, None, IfOk, OnOk, OnErr, IsTrue, IsUtf8, if◌then◌else◌};
 ghost use Rattle.std.specs.Cmp.{partial_equiv_from_equiv};
 ghost use Rattle.std.proofs.lemmas.Cmp.{nat_list_eq_equiv};
 ghost use Rattle.std.specs.Str.{bytes_eq, is_utf8};
 ghost use Rattle.rs_path.specs.Names.{is_name, is_dots, has_no_separator};
+ghost use Rattle.rs_path.specs.Targets.{escaped};
 
 use crate::limits::MAX_NAME;
 use crate::no_memory::NoMemory;
+use crate::target::escaped_name;
 use std::alloc::Global;
 use std::marker::Model;
 
@@ -60,6 +62,17 @@ impl Name {
         ensures text { IsUtf8 self.now }
     {
         self.text.as_slice()
+    }
+
+    /// Appends the name as it stands in the target of a request: every byte but letters, digits, `-`, `.`, `_` and `~` is escaped
+    /// (RFC 3986, section 2.1). After an error `out` is as before.
+    pub fn write_target(&self, out: &mut Vec<u8>) -> Result<(), NoMemory>
+        ensures ok { OnOk result (out.new.items ≡ out.old.items ++ escaped self.now) }
+        ensures err { OnErr result (out.new.items ≡ out.old.items) }
+    {
+        let text = escaped_name(*out.allocator(), self)?;
+        out.extend_from_slice(text.as_bytes())?;
+        Ok(())
     }
 
     /// An equal name, from the same allocator.

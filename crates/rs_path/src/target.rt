@@ -33,6 +33,15 @@ pub(crate) fn target_of(alloc: Global, names: &[Name], folder: bool) -> Result<S
     Ok(text)
 }
 
+/// The name escaped.
+pub(crate) fn escaped_name(alloc: Global, name: &Name) -> Result<String, NoMemory>
+    ensures { IfOk result (λ text. string_bytes text ≡ escaped name.now) }
+{
+    let mut text = String::new(alloc);
+    push_escaped(&mut text, name)?;
+    Ok(text)
+}
+
 fn push_escaped(text: &mut String, name: &Name) -> Result<(), NoMemory>
     ensures { OnOk result (string_bytes text.new ≡ string_bytes text.old ++ escaped name.now) }
 {
