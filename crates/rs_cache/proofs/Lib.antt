@@ -1,0 +1,24 @@
+pub mod Cited
+mod EntryLemmas
+mod JournalLemmas
+mod BaseLemmas
+mod ChangeLemmas
+mod DoubtLemmas
+mod KeptLemmas
+mod RecordLemmas
+mod FateLemmas
+mod EventLemmas
+mod CanonLemmas
+mod Examples
+mod BelowLemmas
+mod FirstLemmas
+mod ScanLemmas
+mod TwinLemmas
+mod SpotLemmas
+mod MapLemmas
+mod ReadyLemmas
+mod LawfulLemmas
+mod NotingLemmas
+mod ClientRowLemmas
+mod PastLemmas
+mod ListLemmas
