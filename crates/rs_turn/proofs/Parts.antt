@@ -5,24 +5,16 @@ use lib.ListN.{get_elem?}
 use Rattle.rs_path.specs.declared.log_entry.LogEntry.{LogEntry}
 use Rattle.rs_turn.specs.declared.board.View.{View}
 use Rattle.rs_turn.specs.declared.board.Stage.{Stage}
-use Rattle.rs_turn.specs.declared.board.Stage.TheVariants.{Idle, Waiting, Holding, Looked, Drew}
-use Rattle.rs_turn.specs.Rule.{is_queued, is_drawing, has_drawn, is_busy, queued, holding, drawing, named, SeatFits, Seats, InTurn, Queue, LogFits, Slot, LogPart}
+use Rattle.rs_turn.specs.Rule.{is_drawing, has_drawn, is_busy, holding, drawing, named, SeatFits, Seats, OneHolds, LogFits, Slot, LogPart}
 use Rattle.rs_turn.proofs.Tallies.{set_each, tally_set}
 
--- the four words of the table
-abbrev pub four : ℕ → ℕ → ℕ → ℕ → List ℕ
-four a b c d = a ∷ b ∷ c ∷ d ∷ []
+-- the three words of the table
+abbrev pub three : ℕ → ℕ → ℕ → List ℕ
+three a b c = a ∷ b ∷ c ∷ []
 
 -- a stage in which no seat is being numbered
 abbrev pub IsQuiet : Stage → Type 0
 IsQuiet s = (has_drawn s ≡ 0) × (is_drawing s ≡ 0)
-
-pub unqueued : (last first : ℕ) (turn : ℕ → ℕ) (by : ℕ) (s : Stage) → is_queued s ≡ 0 → InTurn last first turn by s
-unqueued last first turn by Idle e = tt
-unqueued last first turn by (Waiting t) e = absurd (omega arith)
-unqueued last first turn by (Holding t) e = absurd (omega arith)
-unqueued last first turn by Looked e = tt
-unqueued last first turn by (Drew n) e = tt
 
 module _ {W O : Type 0} where
   module _ (made : ℕ) (owner : ℕ → ℕ) (views : List (View W O)) (by : ℕ) (v w : View W O) (k : Seats made owner views) (at : get_elem? views by ≡ home.some v) where
@@ -44,13 +36,9 @@ module _ {W O : Type 0} where
           room = let h = k.room in let q = quiet.1 in let q' = quiet'.1 in omega arith;
         }
 
-  module _ (last first : ℕ) (turn : ℕ → ℕ) (views : List (View W O)) (by : ℕ) (v w : View W O) (k : Queue last first turn views) (at : get_elem? views by ≡ home.some v) where
-    -- a step of a seat that keeps its ticket, or has none
-    pub queue_stays : queued w ≡ queued v → InTurn last first turn by w.stage → Queue last first turn (set views by w)
-    queue_stays same here = record {
-      each = set_each (λ j x. InTurn last first turn j x.stage) (λ j x. InTurn last first turn j x.stage) views by w k.each (λ j x other e old. old) here;
-      line = let s = tally_set queued views by v w at in let h = k.line in omega arith;
-    }
+  -- a step that moves no value
+  pub turns_stay : (held : ℕ) (views : List (View W O)) (by : ℕ) (v w : View W O) → OneHolds held views → get_elem? views by ≡ home.some v → holding w ≡ holding v → OneHolds held (set views by w)
+  turns_stay held views by v w k at same = let s = tally_set holding views by v w at in omega arith
 
   module _ {B : Type 0} (stood : O → List (LogEntry W) → Type 0) (stands : O → B → List (LogEntry W) → Type 0) (origin : O) (log : List (LogEntry W)) (made : ℕ) (homes : List (home.Option (Option B))) (views : List (View W O)) (by : ℕ) (v w : View W O) (k : LogPart stood stands origin log made homes views) (at : get_elem? views by ≡ home.some v) where
     -- a step that moves neither the value nor the history

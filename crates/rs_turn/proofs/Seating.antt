@@ -9,14 +9,14 @@ use Rattle.atomic_table.proofs.Lists.{at_set}
 use Rattle.rs_path.specs.declared.log_entry.LogEntry.{LogEntry}
 use Rattle.rs_turn.specs.declared.board.View.{View}
 use Rattle.rs_turn.specs.declared.board.Stage.{Stage}
-use Rattle.rs_turn.specs.declared.board.Stage.TheVariants.{Idle, Waiting, Holding, Looked, Drew}
+use Rattle.rs_turn.specs.declared.board.Stage.TheVariants.{Idle, Holding, Looked, Drew}
 use Rattle.rs_path.specs.Logs.{StartsWith, own}
-use Rattle.rs_turn.specs.Rule.{is_queued, is_holding, is_drawing, has_drawn, is_busy, queued, holding, drawing, named, SeatFits, Seats, InTurn, StageFits, Queue, LogFits, Slot, LogPart, TurnRule}
+use Rattle.rs_turn.specs.Rule.{is_holding, is_drawing, has_drawn, is_busy, holding, drawing, named, SeatFits, Seats, StageFits, OneHolds, LogFits, Slot, LogPart, TurnRule}
 use Rattle.rs_turn.specs.Limits.{max_seats}
 use Rattle.rs_turn.specs.Plays.{drawn_number, at_stage, having_seen, knowing_made, parted, informed, spent, Sees, Numbers, CountsLog, Adopts}
 use Rattle.rs_turn.proofs.Tallies.{put, put_here, put_else, set_each, push_each, tally_set, tally_push, tally_le}
 use Rattle.rs_turn.proofs.Histories.{begins_itself, of_front, of_between}
-use Rattle.rs_turn.proofs.Parts.{four, unqueued, seats_stay, queue_stays, history_stays}
+use Rattle.rs_turn.proofs.Parts.{three, seats_stay, turns_stay, history_stays}
 
 -- what a draw of the number n leaves the seat with, which has it or not
 drawn_is : (n : ℕ) (b : Bool) (c : ℕ) → cond b (Drew n) Idle ≡ Drew c → c ≡ n
@@ -45,28 +45,19 @@ drawn_fits n log seen none false = tt
 
 drawn_stage : (s : Stage) → 0 < drawn_number s → s ≡ Drew (drawn_number s)
 drawn_stage Idle h = absurd (omega arith)
-drawn_stage (Waiting t) h = absurd (omega arith)
-drawn_stage (Holding t) h = absurd (omega arith)
+drawn_stage Holding h = absurd (omega arith)
 drawn_stage Looked h = absurd (omega arith)
 drawn_stage (Drew n) h = refl
 
 one_name : (s : Stage) → min (drawn_number s) 1 ≤ has_drawn s
 one_name Idle = omega arith
-one_name (Waiting t) = omega arith
-one_name (Holding t) = omega arith
+one_name Holding = omega arith
 one_name Looked = omega arith
 one_name (Drew n) = omega arith
 
 -- a seat may be split off one that is about nothing or has drawn a number for it
-pub quiet_stage : (s : Stage) → (s ≡ Idle) ⊎ ((n : ℕ) × (s ≡ Drew n)) → (is_queued s ≡ 0) × (is_drawing s ≡ 0)
-quiet_stage s q = ⊎_elim (λ e. (ap is_queued e, ap is_drawing e)) (λ d. (ap is_queued d.1, ap is_drawing d.1)) q
-
-unheld : (s : Stage) → is_queued s ≡ 0 → is_holding s ≡ 0
-unheld Idle q = refl
-unheld (Waiting t) q = refl
-unheld (Holding t) q = q
-unheld Looked q = refl
-unheld (Drew n) q = refl
+pub quiet_stage : (s : Stage) → (s ≡ Idle) ⊎ ((n : ℕ) × (s ≡ Drew n)) → (is_holding s ≡ 0) × (is_drawing s ≡ 0)
+quiet_stage s q = ⊎_elim (λ e. (ap is_holding e, ap is_drawing e)) (λ d. (ap is_holding d.1, ap is_drawing d.1)) q
 
 numbered_by : {W O : Type 0} {made n by : ℕ} {owner : ℕ → ℕ} {v : View W O} → SeatFits made owner by v → v.stage ≡ Drew n → 0 < v.number
 numbered_by fit e = let h = fit.busy in let z = ap is_busy e in omega arith
@@ -94,14 +85,13 @@ module _ {B W O : Type 0} (stood : O → List (LogEntry W) → Type 0) (stands :
       where
         drawing_busy : (st : Stage) → is_drawing st ≤ is_busy st
         drawing_busy Idle = omega arith
-        drawing_busy (Waiting t) = omega arith
-        drawing_busy (Holding t) = omega arith
+        drawing_busy Holding = omega arith
         drawing_busy Looked = omega arith
         drawing_busy (Drew c) = omega arith
 
-    sees_queue : m.0.stage ≡ Idle → (n : ℕ) (b : Bool) → Queue k.last k.first k.turn (set s.views id (knowing_made m.0 n (cond b Looked Idle)))
-    sees_queue idle n false = queue_stays k.last k.first k.turn s.views id m.0 (knowing_made m.0 n Idle) k.queue at (sym (ap is_queued idle)) tt
-    sees_queue idle n true = queue_stays k.last k.first k.turn s.views id m.0 (knowing_made m.0 n Looked) k.queue at (sym (ap is_queued idle)) tt
+    sees_turns : m.0.stage ≡ Idle → (n : ℕ) (b : Bool) → OneHolds k.held (set s.views id (knowing_made m.0 n (cond b Looked Idle)))
+    sees_turns idle n false = turns_stay k.held s.views id m.0 (knowing_made m.0 n Idle) k.turns at (sym (ap is_holding idle))
+    sees_turns idle n true = turns_stay k.held s.views id m.0 (knowing_made m.0 n Looked) k.turns at (sym (ap is_holding idle))
 
     sees_history : m.0.stage ≡ Idle → (n : ℕ) (b : Bool) → LogPart stood stands origin k.log k.made s.homes (set s.views id (knowing_made m.0 n (cond b Looked Idle)))
     sees_history idle n b =
@@ -120,15 +110,13 @@ module _ {B W O : Type 0} (stood : O → List (LogEntry W) → Type 0) (stands :
     -- a view whose seat is idle before and after
     kept_idle : (w : View W O) → w.number ≡ m.0.number → w.made ≤ k.made → m.0.stage ≡ Idle → w.stage ≡ Idle → LogFits origin k.log w → TurnRule stood stands origin (record { words = s.words; homes = s.homes; views = set s.views id w })
     kept_idle w number most idle idle' fit = record {
-      last = k.last;
-      first = k.first;
+      held = k.held;
       made = k.made;
       log = k.log;
       owner = k.owner;
-      turn = k.turn;
       words = k.words;
       seats = let z = ap is_busy idle' in seats_stay k.made k.owner s.views id m.0 w k.seats at number most (ap has_drawn idle, ap is_drawing idle) (ap has_drawn idle', ap is_drawing idle') (omega arith);
-      queue = queue_stays k.last k.first k.turn s.views id m.0 w k.queue at (ap is_queued idle' ∙ sym (ap is_queued idle)) (unqueued k.last k.first k.turn id w.stage (ap is_queued idle'));
+      turns = turns_stay k.held s.views id m.0 w k.turns at (ap is_holding idle' ∙ sym (ap is_holding idle));
       history = history_stays stood stands origin k.log k.made s.homes s.views id m.0 w k.history at k.made (omega arith) fit (ap is_holding idle' ∙ sym (ap is_holding idle));
     }
 
@@ -138,43 +126,41 @@ module _ {B W O : Type 0} (stood : O → List (LogEntry W) → Type 0) (stands :
     loaded w i words number most idle idle' fit =
         subst (λ (ws : List ℕ). TurnRule stood stands origin (record { words = ws; homes = s.homes; views = set s.views id w })) (sym words) (kept_idle w number most idle idle' fit)
 
-  pub sees : (slots id : ℕ) (m : Me (Option B) (View W O)) → m.0.stage ≡ Idle → 0 < m.0.number → Allows (TurnRule stood stands origin) slots id m 3 (λ n. n) (Sees m)
+  pub sees : (slots id : ℕ) (m : Me (Option B) (View W O)) → m.0.stage ≡ Idle → 0 < m.0.number → Allows (TurnRule stood stands origin) slots id m 2 (λ n. n) (Sees m)
   sees slots id m idle some s k one at small =
-      let made : get_or s.words 3 0 ≡ k.made = ap (λ ws. get_or ws 3 0) k.words in
+      let made : get_or s.words 2 0 ≡ k.made = ap (λ ws. get_or ws 2 0) k.words in
       let fit = k.seats.each id m.0 at in
       let most = fit.most in
       let w = λ (n : ℕ). knowing_made m.0 n (cond (ltb n max_seats) Looked Idle) in (
-        w (get_or s.words 3 0),
+        w (get_or s.words 2 0),
         keeps,
         tt,
         record {
-          last = k.last;
-          first = k.first;
+          held = k.held;
           made = k.made;
           log = k.log;
           owner = k.owner;
-          turn = k.turn;
-          words = ap (λ ws. set ws 3 (get_or ws 3 0)) k.words;
+          words = ap (λ ws. set ws 2 (get_or ws 2 0)) k.words;
           seats = subst (λ (n : ℕ). Seats k.made k.owner (set s.views id (w n))) (sym made) (sees_room id m s k at idle some (ltb k.made max_seats) refl);
-          queue = sees_queue id m s k at idle (get_or s.words 3 0) (ltb (get_or s.words 3 0) max_seats);
-          history = sees_history id m s k at idle (get_or s.words 3 0) (ltb (get_or s.words 3 0) max_seats);
+          turns = sees_turns id m s k at idle (get_or s.words 2 0) (ltb (get_or s.words 2 0) max_seats);
+          history = sees_history id m s k at idle (get_or s.words 2 0) (ltb (get_or s.words 2 0) max_seats);
         },
         (refl, omega arith, refl),
       )
 
-  pub counts : (slots id : ℕ) (m : Me (Option B) (View W O)) → m.0.stage ≡ Idle → 0 < m.0.number → Allows (TurnRule stood stands origin) slots id m 2 (λ n. n) (CountsLog stood m)
+  pub counts : (slots id : ℕ) (m : Me (Option B) (View W O)) → m.0.stage ≡ Idle → 0 < m.0.number → Allows (TurnRule stood stands origin) slots id m 1 (λ n. n) (CountsLog stood m)
   counts slots id m idle some s k one at small =
       let v = m.0 in
       let fit = k.history.each id v at in (
         having_seen v k.log,
         keeps,
         tt,
-        loaded id m s k at (having_seen v k.log) 2 (ap (λ ws. set ws 2 (get_or ws 2 0)) k.words ∙ sym k.words) refl (k.seats.each id v at).most idle idle
+        loaded id m s k at (having_seen v k.log) 1 (ap (λ ws. set ws 1 (get_or ws 1 0)) k.words ∙ sym k.words) refl (k.seats.each id v at).most idle idle
             record { origin = fit.origin; seen = begins_itself k.log; told = fit.told; mine = λ _. refl; stage = subst (StageFits k.log k.log) (sym idle) tt },
-        (refl, ap (λ ws. get_or ws 2 0) k.words, (origin, fit.origin some, k.history.begun), fit.seen, fit.told, fit.mine some, refl),
+        (refl, ap (λ ws. get_or ws 1 0) k.words, (origin, fit.origin some, k.history.begun), fit.seen, fit.told, fit.mine some, refl),
       )
 
-  pub adopts : (slots id : ℕ) (m : Me (Option B) (View W O)) → m.0.stage ≡ Idle → 0 < m.0.number → StartsWith m.0.told m.0.seen → Allows (TurnRule stood stands origin) slots id m 2 (λ n. n) (Adopts m)
+  pub adopts : (slots id : ℕ) (m : Me (Option B) (View W O)) → m.0.stage ≡ Idle → 0 < m.0.number → StartsWith m.0.told m.0.seen → Allows (TurnRule stood stands origin) slots id m 1 (λ n. n) (Adopts m)
   adopts slots id m idle some begins s k one at small =
       let v = m.0 in
       let fit = k.history.each id v at in
@@ -182,7 +168,7 @@ module _ {B W O : Type 0} (stood : O → List (LogEntry W) → Type 0) (stands :
         having_seen v v.told,
         keeps,
         tt,
-        loaded id m s k at (having_seen v v.told) 2 (ap (λ ws. set ws 2 (get_or ws 2 0)) k.words ∙ sym k.words) refl (k.seats.each id v at).most idle idle
+        loaded id m s k at (having_seen v v.told) 1 (ap (λ ws. set ws 1 (get_or ws 1 0)) k.words ∙ sym k.words) refl (k.seats.each id v at).most idle idle
             record { origin = fit.origin; seen = fit.told; told = fit.told; mine = λ h. fit.mine h ∙ sym same; stage = subst (StageFits k.log v.told) (sym idle) tt },
         (refl, same, refl),
       )
@@ -229,9 +215,9 @@ module _ {B W O : Type 0} (stood : O → List (LogEntry W) → Type 0) (stands :
           room = let h = k.seats.room in let t = tally_set drawing s.views id m.0 w at in let x = ap is_drawing looked in let y = not_drawing n b in omega arith;
         }
 
-    numbers_queue : (n : ℕ) (b : Bool) → Queue k.last k.first k.turn (set s.views id (knowing_made m.0 n (cond b (Drew n) Idle)))
-    numbers_queue n false = queue_stays k.last k.first k.turn s.views id m.0 (knowing_made m.0 n Idle) k.queue at (sym (ap is_queued looked)) tt
-    numbers_queue n true = queue_stays k.last k.first k.turn s.views id m.0 (knowing_made m.0 n (Drew n)) k.queue at (sym (ap is_queued looked)) tt
+    numbers_turns : (n : ℕ) (b : Bool) → OneHolds k.held (set s.views id (knowing_made m.0 n (cond b (Drew n) Idle)))
+    numbers_turns n false = turns_stay k.held s.views id m.0 (knowing_made m.0 n Idle) k.turns at (sym (ap is_holding looked))
+    numbers_turns n true = turns_stay k.held s.views id m.0 (knowing_made m.0 n (Drew n)) k.turns at (sym (ap is_holding looked))
 
     numbers_history : (b : Bool) → LogPart stood stands origin k.log (k.made + 1) s.homes (set s.views id (knowing_made m.0 (k.made + 1) (cond b (Drew (k.made + 1)) Idle)))
     numbers_history b =
@@ -240,41 +226,39 @@ module _ {B W O : Type 0} (stood : O → List (LogEntry W) → Type 0) (stands :
         history_stays stood stands origin k.log k.made s.homes s.views id m.0 (knowing_made m.0 n (cond b (Drew n) Idle)) k.history at n (omega arith)
         record { origin = fit.origin; seen = fit.seen; told = fit.told; mine = fit.mine; stage = drawn_fits n k.log m.0.seen (k.history.unused n (omega arith)) b } (not_holding n b ∙ sym (ap is_holding looked))
 
-  pub numbers : (slots id : ℕ) (m : Me (Option B) (View W O)) → m.0.stage ≡ Looked → Allows (TurnRule stood stands origin) slots id m 3 (λ r. (r + 1) % 2 ^ 64) (Numbers m)
+  pub numbers : (slots id : ℕ) (m : Me (Option B) (View W O)) → m.0.stage ≡ Looked → Allows (TurnRule stood stands origin) slots id m 2 (λ r. (r + 1) % 2 ^ 64) (Numbers m)
   numbers slots id m looked s k one at small =
-      let made : get_or s.words 3 0 ≡ k.made = ap (λ ws. get_or ws 3 0) k.words in
+      let made : get_or s.words 2 0 ≡ k.made = ap (λ ws. get_or ws 2 0) k.words in
       let fit = k.seats.each id m.0 at in
       let some : 0 < m.0.number = let h = fit.busy in let z = ap is_busy looked in omega arith in
       let most = fit.most in
       let mine = (fit.number some).1 in
       let room = k.seats.room in
-      let r = get_or s.words 3 0 in
+      let r = get_or s.words 2 0 in
       let w = λ (n : ℕ). knowing_made m.0 (n + 1) (cond (ltb n max_seats) (Drew (n + 1)) Idle) in (
-        w (get_or s.words 3 0),
+        w (get_or s.words 2 0),
         keeps,
         tt,
         record {
-          last = k.last;
-          first = k.first;
+          held = k.held;
           made = k.made + 1;
           log = k.log;
           owner = put k.owner (k.made + 1) id;
-          turn = k.turn;
-          words = ap (λ ws. set ws 3 ((get_or ws 3 0 + 1) % 2 ^ 64)) k.words ∙ ap (λ n. four (k.last % 2 ^ 64) (k.first % 2 ^ 64) (length k.log) n) (mod-eq_of_lt (omega arith));
+          words = ap (λ ws. set ws 2 ((get_or ws 2 0 + 1) % 2 ^ 64)) k.words ∙ ap (λ n. three k.held (length k.log) n) (mod-eq_of_lt (omega arith));
           seats = subst (λ (n : ℕ). Seats (k.made + 1) (put k.owner (k.made + 1) id) (set s.views id (w n))) (sym made) (numbers_seats id m s k at looked (ltb k.made max_seats));
-          queue = numbers_queue id m s k at looked (get_or s.words 3 0 + 1) (ltb (get_or s.words 3 0) max_seats);
+          turns = numbers_turns id m s k at looked (get_or s.words 2 0 + 1) (ltb (get_or s.words 2 0) max_seats);
           history = subst (λ (n : ℕ). LogPart stood stands origin k.log (k.made + 1) s.homes (set s.views id (w n))) (sym made) (numbers_history id m s k at looked (ltb k.made max_seats));
         },
         (
           refl,
           omega arith,
           omega arith,
-          of_front (get_or s.words 3 0 + 1) k.log m.0.seen (k.history.each id m.0 at).seen (k.history.unused (get_or s.words 3 0 + 1) (omega arith)),
+          of_front (get_or s.words 2 0 + 1) k.log m.0.seen (k.history.each id m.0 at).seen (k.history.unused (get_or s.words 2 0 + 1) (omega arith)),
           refl,
         ),
       )
 
-  module _ (id : ℕ) (v : View W O) (s : State (Option B) (View W O)) (k : TurnRule stood stands origin s) (at : get_elem? s.views id ≡ home.some v) (quiet : (is_queued v.stage ≡ 0) × (is_drawing v.stage ≡ 0)) where
+  module _ (id : ℕ) (v : View W O) (s : State (Option B) (View W O)) (k : TurnRule stood stands origin s) (at : get_elem? s.views id ≡ home.some v) (quiet : (is_holding v.stage ≡ 0) × (is_drawing v.stage ≡ 0)) where
     -- the seats, where one is split off: it has the number that was drawn, if one was
     parts_seats : Seats k.made (put k.owner (drawn_number v.stage) (length (set s.views id (at_stage v Idle)))) (set s.views id (at_stage v Idle) ++ parted v ∷ [])
     parts_seats =
@@ -309,15 +293,12 @@ module _ {B W O : Type 0} (stood : O → List (LogEntry W) → Type 0) (stands :
           room = let h = k.seats.room in let t = tally_set drawing s.views id v left at in let u = tally_push drawing views (parted v) in let q = quiet.1 in omega arith;
         }
 
-    parts_queue : Queue k.last k.first k.turn (set s.views id (at_stage v Idle) ++ parted v ∷ [])
-    parts_queue =
+    parts_turns : OneHolds k.held (set s.views id (at_stage v Idle) ++ parted v ∷ [])
+    parts_turns =
         let left = at_stage v Idle in
         let views = set s.views id left in
-        let q = queue_stays k.last k.first k.turn s.views id v left k.queue at (sym quiet.0) tt in
-        record {
-          each = push_each (λ j x. InTurn k.last k.first k.turn j x.stage) views (parted v) q.each tt;
-          line = let h = q.line in let u = tally_push queued views (parted v) in omega arith;
-        }
+        let q = turns_stay k.held s.views id v left k.turns at (sym quiet.0) in
+        let u = tally_push holding views (parted v) in omega arith
 
     parts_history : LogPart stood stands origin k.log k.made s.homes (set s.views id (at_stage v Idle) ++ parted v ∷ [])
     parts_history =
@@ -326,7 +307,7 @@ module _ {B W O : Type 0} (stood : O → List (LogEntry W) → Type 0) (stands :
         let fit = k.history.each id v at in
         let some = λ (h : 0 < drawn_number v.stage). numbered_by (k.seats.each id v at) (drawn_stage v.stage h) in
         let t = history_stays stood stands origin k.log k.made s.homes s.views id v left k.history at k.made (omega arith)
-        record { origin = fit.origin; seen = fit.seen; told = fit.told; mine = fit.mine; stage = tt } (sym (unheld v.stage quiet.0)) in
+        record { origin = fit.origin; seen = fit.seen; told = fit.told; mine = fit.mine; stage = tt } (sym quiet.0) in
         record {
           each = push_each (λ j x. LogFits origin k.log x) views (parted v) t.each record {
             origin = λ h. fit.origin (some h);
@@ -340,16 +321,14 @@ module _ {B W O : Type 0} (stood : O → List (LogEntry W) → Type 0) (stands :
           slot = let u = tally_push holding views (parted v) in subst (Slot stood stands origin k.log s.homes) (omega arith) t.slot;
         }
 
-  pub parts : (id : ℕ) (v : View W O) → (is_queued v.stage ≡ 0) × (is_drawing v.stage ≡ 0) → Splits (TurnRule stood stands origin) id v (at_stage v Idle) (parted v)
+  pub parts : (id : ℕ) (v : View W O) → (is_holding v.stage ≡ 0) × (is_drawing v.stage ≡ 0) → Splits (TurnRule stood stands origin) id v (at_stage v Idle) (parted v)
   parts id v quiet s k at = record {
-    last = k.last;
-    first = k.first;
+    held = k.held;
     made = k.made;
     log = k.log;
     owner = put k.owner (drawn_number v.stage) (length (set s.views id (at_stage v Idle)));
-    turn = k.turn;
     words = k.words;
     seats = parts_seats id v s k at quiet;
-    queue = parts_queue id v s k at quiet;
+    turns = parts_turns id v s k at quiet;
     history = parts_history id v s k at quiet;
   }

@@ -1,8 +1,7 @@
 -- What stays true of each element of a list, and of a sum over it, where one element is changed or added.
-use Rattle.std.proofs.Common.{◌≡◌, ◌≢◌, ℕ, zero, suc, ◌+◌, ◌<◌, ◌≤◌, List, [], ◌∷◌, ◌++◌, length, set, sym, refl, ap, ◌∙◌, subst, ⊎_elim, arith}
+use Rattle.std.proofs.Common.{◌≡◌, ◌≢◌, ℕ, zero, suc, ◌+◌, ◌≤◌, List, [], ◌∷◌, ◌++◌, length, set, sym, refl, ap, ◌∙◌, subst, ⊎_elim, arith}
 use mathlib.Core.Option.{some, some-injective, some-ne-none}
-use mathlib.Core.Logic.{dite}
-use native.Mathlib.Decide.{dec_lt, ℕ_discrete}
+use native.Mathlib.Decide.{ℕ_discrete}
 use lib.ListN.{get_elem?}
 use Rattle.atomic_table.proofs.Lists.{at_set}
 use Rattle.rs_turn.specs.Rule.{tally}
@@ -62,10 +61,13 @@ module _ {A : Type 0} where
     tally_at (x ∷ xs) zero v e = let same = ap f (some-injective x v e) in omega arith
     tally_at (x ∷ xs) (suc i) v e = let rest = tally_at xs i v e in omega arith
 
-    -- a sum above 0 has an element above 0
-    pub some_above : (l : List A) → 0 < tally f l → (i : ℕ) × (v : A) × (get_elem? l i ≡ some v) × (0 < f v)
-    some_above [] h = absurd (omega arith)
-    some_above (x ∷ xs) h = dite (dec_lt 0 (f x)) (λ d. (0, x, refl, d)) (λ n. let r = some_above xs (omega arith) in (suc r.0, r.1, r.2, r.3))
+    -- two elements of a list are two of its sum
+    pub tally_two : (l : List A) (i j : ℕ) (v x : A) → i ≢ j → get_elem? l i ≡ some v → get_elem? l j ≡ some x → f v + f x ≤ tally f l
+    tally_two [] i j v x other e g = absurd (some-ne-none v (sym e))
+    tally_two (y ∷ ys) zero zero v x other e g = absurd (other refl)
+    tally_two (y ∷ ys) zero (suc j) v x other e g = let same = ap f (some-injective y v e) in let rest = tally_at ys j x g in omega arith
+    tally_two (y ∷ ys) (suc i) zero v x other e g = let same = ap f (some-injective y x g) in let rest = tally_at ys i v e in omega arith
+    tally_two (y ∷ ys) (suc i) (suc j) v x other e g = let rest = tally_two ys i j v x (λ z. other (ap suc z)) e g in omega arith
 
   pub tally_le : (f g : A → ℕ) (l : List A) → ((i : ℕ) (v : A) → get_elem? l i ≡ some v → f v ≤ g v) → tally f l ≤ tally g l
   tally_le f g [] below = omega arith

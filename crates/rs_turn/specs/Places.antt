@@ -21,7 +21,7 @@ grown_by (Some x) = 1
 
 module _ {S W O : Type 0} where
   abbrev pub IsPlaceOf : TableId → Seat S (View W O) → Type 0
-  IsPlaceOf t p = (t.words ≡ 4) × (p.table_id ≡ t)
+  IsPlaceOf t p = (t.words ≡ 3) × (p.table_id ≡ t)
 
   -- it is numbered and about nothing
   abbrev pub IsAtRest : Seat S (View W O) → Type 0
@@ -30,6 +30,6 @@ module _ {S W O : Type 0} where
 module _ {B W O : Type 0} (stands : O → B → List (LogEntry W) → Type 0) where
   -- the seat has taken the value out of the slot, and has seen the history that it stands for
   abbrev pub HasTaken : View W O → B → Me (Option B) (View W O) → Type 0
-  HasTaken v b n = (t : ℕ) × (o : O) × (v.origin ≡ Some o) × (n.1 ≡ (0, None) ∷ [])
+  HasTaken v b n = (o : O) × (v.origin ≡ Some o) × (n.1 ≡ (0, None) ∷ [])
       × stands o b n.0.seen × StartsWith n.0.seen v.seen
-      × (own v.number n.0.seen ≡ own v.number v.seen) × (n.0 ≡ at_stage (having_seen v n.0.seen) (Holding t))
+      × (own v.number n.0.seen ≡ own v.number v.seen) × (n.0 ≡ at_stage (having_seen v n.0.seen) Holding)

@@ -1,11 +1,11 @@
 -- What each step on the table tells the seat that makes it: of the seat before, the number found
 -- and the seat after.
-use Rattle.std.specs.Prelude.{◌≡◌, ℕ, ◌+◌, ◌%◌, ◌^◌, ◌≤◌, cond, nat_lt, List, [], ◌∷◌, length, Option, Some, None}
+use Rattle.std.specs.Prelude.{◌≡◌, ℕ, ◌+◌, ◌≤◌, cond, nat_lt, List, [], ◌∷◌, length, Option, Some, None}
 use Rattle.atomic_table.specs.Table.{Me}
 use Rattle.rs_path.specs.declared.log_entry.LogEntry.{LogEntry}
 use Rattle.rs_turn.specs.declared.board.View.{View}
 use Rattle.rs_turn.specs.declared.board.Stage.{Stage}
-use Rattle.rs_turn.specs.declared.board.Stage.TheVariants.{Idle, Waiting, Holding, Looked, Drew}
+use Rattle.rs_turn.specs.declared.board.Stage.TheVariants.{Idle, Holding, Looked, Drew}
 use Rattle.rs_path.specs.Logs.{StartsWith, own}
 use Rattle.rs_turn.specs.Entries.{extended}
 use Rattle.rs_turn.specs.Limits.{max_seats}
@@ -15,8 +15,7 @@ use Rattle.rs_turn.specs.Origins.{BeginsAsMade}
 abbrev pub drawn_number : Stage → ℕ
 drawn_number (Drew n) = n
 drawn_number Idle = 0
-drawn_number (Waiting t) = 0
-drawn_number (Holding t) = 0
+drawn_number Holding = 0
 drawn_number Looked = 0
 
 module _ {W O : Type 0} where
@@ -44,15 +43,11 @@ module _ {W O : Type 0} where
   spent = record { origin = None; seen = []; told = []; number = 0; made = 0; stage = Idle }
 
 module _ {S W O : Type 0} where
-  -- a ticket is drawn
-  abbrev pub DrawsTicket : Me S (View W O) → ℕ → Me S (View W O) → Type 0
-  DrawsTicket m r n = (n.1 ≡ m.1) × ((t : ℕ) × (r ≡ t % 2 ^ 64) × (n.0 ≡ at_stage m.0 (Waiting t)))
-
   -- the history gets the entry, if there is one
   abbrev pub Books : Option W → Me S (View W O) → ℕ → Me S (View W O) → Type 0
   Books e m r n = (n.1 ≡ m.1) × (n.0 ≡ having_booked m.0 e)
 
-  -- the value is back, and the next ticket is served
+  -- the value is back
   abbrev pub Passes : Me S (View W O) → ℕ → Me S (View W O) → Type 0
   Passes m r n = (n.1 ≡ []) × (n.0 ≡ at_stage m.0 Idle)
 
@@ -81,12 +76,11 @@ module _ {S W O : Type 0} (stood : O → List (LogEntry W) → Type 0) where
 
 module _ {B W O : Type 0} (stands : O → B → List (LogEntry W) → Type 0) where
   -- the seat has the value, and has seen the history that it stands for
-  abbrev pub TakesValue : View W O → ℕ → Me (Option B) (View W O) → Type 0
-  TakesValue v t n = (b : B) × (o : O) × (v.origin ≡ Some o) × (n.1 ≡ (0, Some b) ∷ [])
+  abbrev pub TakesValue : View W O → Me (Option B) (View W O) → Type 0
+  TakesValue v n = (b : B) × (o : O) × (v.origin ≡ Some o) × (n.1 ≡ (0, Some b) ∷ [])
       × stands o b n.0.seen × StartsWith n.0.seen v.seen
-      × (own v.number n.0.seen ≡ own v.number v.seen) × (n.0 ≡ at_stage (having_seen v n.0.seen) (Holding t))
+      × (own v.number n.0.seen ≡ own v.number v.seen) × (n.0 ≡ at_stage (having_seen v n.0.seen) Holding)
 
-  -- the ticket that is served: the seat's own, and it takes the value, or another
-  abbrev pub Looks : Me (Option B) (View W O) → ℕ → Me (Option B) (View W O) → Type 0
-  Looks m r n = (t : ℕ) → m.0.stage ≡ Waiting t → (r ≡ t % 2 ^ 64 → TakesValue m.0 t n)
-      × (¬ (r ≡ t % 2 ^ 64) → n ≡ m)
+  -- the value was free, and the seat takes it; or another seat held it, and this one is as before
+  abbrev pub Grabs : Me (Option B) (View W O) → ℕ → Me (Option B) (View W O) → Type 0
+  Grabs m r n = (r ≡ 0 → TakesValue m.0 n) × (¬ (r ≡ 0) → n ≡ m)

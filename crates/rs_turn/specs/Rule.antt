@@ -1,13 +1,13 @@
 -- The rule of the table that the seats of a lock share. It has three parts, and each step of a seat
 -- keeps it.
-use Rattle.std.specs.Prelude.{◌≡◌, ℕ, ◌+◌, ◌%◌, ◌^◌, ◌<◌, ◌≤◌, min, ◌⊎◌, List, [], ◌∷◌, length, Option, Some}
+use Rattle.std.specs.Prelude.{◌≡◌, ℕ, ◌+◌, ◌^◌, ◌<◌, ◌≤◌, min, ◌⊎◌, List, [], ◌∷◌, length, Option, Some}
 use mathlib.Core.Option as home
 use lib.ListN.{get_elem?}
 use Rattle.atomic_table.specs.Table.{State}
 use Rattle.rs_path.specs.declared.log_entry.LogEntry.{LogEntry}
 use Rattle.rs_turn.specs.declared.board.View.{View}
 use Rattle.rs_turn.specs.declared.board.Stage.{Stage}
-use Rattle.rs_turn.specs.declared.board.Stage.TheVariants.{Idle, Waiting, Holding, Looked, Drew}
+use Rattle.rs_turn.specs.declared.board.Stage.TheVariants.{Idle, Holding, Looked, Drew}
 use Rattle.rs_path.specs.Logs.{StartsWith, own}
 use Rattle.rs_turn.specs.Origins.{BeginsAs}
 
@@ -17,61 +17,38 @@ tally f [] = 0
 tally f (x ∷ xs) = f x + tally f xs
 
 -- 1 where the stage is what the name says, else 0
-abbrev pub is_queued : Stage → ℕ
-is_queued (Waiting t) = 1
-is_queued (Holding t) = 1
-is_queued Idle = 0
-is_queued Looked = 0
-is_queued (Drew n) = 0
-
 abbrev pub is_holding : Stage → ℕ
-is_holding (Holding t) = 1
+is_holding Holding = 1
 is_holding Idle = 0
-is_holding (Waiting t) = 0
 is_holding Looked = 0
 is_holding (Drew n) = 0
 
 abbrev pub is_drawing : Stage → ℕ
 is_drawing Looked = 1
 is_drawing Idle = 0
-is_drawing (Waiting t) = 0
-is_drawing (Holding t) = 0
+is_drawing Holding = 0
 is_drawing (Drew n) = 0
 
 abbrev pub has_drawn : Stage → ℕ
 has_drawn (Drew n) = 1
 has_drawn Idle = 0
-has_drawn (Waiting t) = 0
-has_drawn (Holding t) = 0
+has_drawn Holding = 0
 has_drawn Looked = 0
 
 abbrev pub is_busy : Stage → ℕ
 is_busy Idle = 0
-is_busy (Waiting t) = 1
-is_busy (Holding t) = 1
+is_busy Holding = 1
 is_busy Looked = 1
 is_busy (Drew n) = 1
 
--- what a view's ticket is, where `turn` says whose each ticket is
-abbrev pub InTurn : ℕ → ℕ → (ℕ → ℕ) → ℕ → Stage → Type 0
-InTurn last first turn by (Waiting t) = (turn t ≡ by) × (first ≤ t) × (t < last)
-InTurn last first turn by (Holding t) = (turn t ≡ by) × (first ≡ t) × (t < last)
-InTurn last first turn by Idle = Unit {0}
-InTurn last first turn by Looked = Unit {0}
-InTurn last first turn by (Drew n) = Unit {0}
-
 -- who holds the value has seen the whole history, and no entry has a number that no seat has yet
 abbrev pub StageFits : {W : Type 0} → List (LogEntry W) → List (LogEntry W) → Stage → Type 0
-StageFits log seen (Holding t) = seen ≡ log
+StageFits log seen Holding = seen ≡ log
 StageFits log seen (Drew n) = own n log ≡ []
 StageFits log seen Idle = Unit {0}
-StageFits log seen (Waiting t) = Unit {0}
 StageFits log seen Looked = Unit {0}
 
 module _ {W O : Type 0} where
-  abbrev pub queued : View W O → ℕ
-  queued v = is_queued v.stage
-
   abbrev pub holding : View W O → ℕ
   holding v = is_holding v.stage
 
@@ -95,12 +72,9 @@ module _ {W O : Type 0} where
     pub names : tally named views ≤ made
     pub room : tally drawing views + made < 2 ^ 33
 
-  -- Part 2, turns. The tickets that are out are those from `first` up to the one before `last`,
-  -- each with one view, and who holds has the first.
-  pub record Queue (last first : ℕ) (turn : ℕ → ℕ) (views : List (View W O)) : Type 0 where
-    pub each : (by : ℕ) (v : View W O) → get_elem? views by ≡ home.some v
-        → InTurn last first turn by v.stage
-    pub line : tally queued views + first ≡ last
+  -- Part 2, turns. At most one view holds the value, and the word is 0 exactly where none does.
+  abbrev pub OneHolds : ℕ → List (View W O) → Type 0
+  OneHolds held views = tally holding views ≡ min held 1
 
   -- Part 3, history. It begins with what the origin stood for. What a view has seen or was told
   -- begins the history, and the entries of a number are all among what its seat has seen.
@@ -123,15 +97,13 @@ module _ {W O : Type 0} where
       pub slot : Slot o log homes (tally holding views)
 
     pub record TurnRule (o : O) (s : State (Option B) (View W O)) : Type 0 where
-      pub last : ℕ
-      pub first : ℕ
+      pub held : ℕ
       pub made : ℕ
       pub log : List (LogEntry W)
       pub owner : ℕ → ℕ
-      pub turn : ℕ → ℕ
-      pub words : s.words ≡ last % 2 ^ 64 ∷ first % 2 ^ 64 ∷ length log ∷ made ∷ []
+      pub words : s.words ≡ held ∷ length log ∷ made ∷ []
       pub seats : Seats made owner s.views
-      pub queue : Queue last first turn s.views
+      pub turns : OneHolds held s.views
       pub history : LogPart o log made s.homes s.views
 
   -- the first seat of a lock of this value

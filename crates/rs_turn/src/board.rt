@@ -1,8 +1,9 @@
 //! The table that the seats of a lock share.
 //!
-//! Word 0 counts the tickets drawn and word 1 those served, both modulo 2 to the 64th. Word 2 is
-//! the length of the history, and word 3 the number of the last seat that was numbered. The one
-//! slot holds the value, but for the time from the look that finds a seat's ticket to its pass.
+//! Word 0 says whether a seat holds the value: `FREE`, `HELD`, or `WANTED` where one holds it and
+//! another may sleep until it comes home. Word 1 is the length of the history, and word 2 the
+//! number of the last seat that was numbered. The one slot holds the value, but for the time from
+//! the grab that finds word 0 free to the pass that frees it.
 use crate::held::Held;
 use atomic_table::{Seat, Shared, Table, TableRule};
 use rs_path::LogEntry;
@@ -10,22 +11,26 @@ use std::alloc::Global;
 use std::collections::LinkedList;
 use std::snapshot::Snapshot;
 
-pub(crate) const TICKET: usize = 0;
+pub(crate) const TURN: usize = 0;
 
-pub(crate) const SERVING: usize = 1;
+pub(crate) const COUNT: usize = 1;
 
-pub(crate) const COUNT: usize = 2;
+pub(crate) const MADE: usize = 2;
 
-pub(crate) const MADE: usize = 3;
+/// No seat holds the value.
+pub(crate) const FREE: u64 = 0;
 
-/// What a seat is about. Tickets are counted without end here, so that no two are the same. No
-/// value of it is made.
+/// A seat holds the value, and none sleeps until it comes home.
+pub(crate) const HELD: u64 = 1;
+
+/// A seat holds the value, and another may sleep until it comes home.
+pub(crate) const WANTED: u64 = 2;
+
+/// What a seat is about. No value of it is made.
 pub enum Stage {
     Idle,
-    /// It has drawn this ticket.
-    Waiting(u64),
-    /// Its ticket is served, and it has the value.
-    Holding(u64),
+    /// It has the value.
+    Holding,
     /// It has looked at how many seats were numbered, and may number one.
     Looked,
     /// It has drawn this number for a new seat.

@@ -4,7 +4,7 @@ ghost use Rattle.rs_path.specs.declared.log_entry.LogEntry.{LogEntry};
 ghost use Rattle.rs_path.specs.Logs.{StartsWith, own};
 ghost use Rattle.rs_turn.specs.Origins.{BeginsAs, BeginsAsMade, HasBasisOf};
 
-use crate::board::Owned;
+use crate::board::{FREE, Owned};
 use crate::held::Held;
 use crate::seat::Seat;
 use crate::steps::count;
@@ -35,7 +35,7 @@ impl<V: Held> Model for TurnLock<V> {
 
     ghost view = { λ l. record { table = l.table.shared.table_id; origin = Some l.table.shared.key.value } };
 
-    ghost invariant = { λ l. l.table.shared.table_id.words ≡ 4 };
+    ghost invariant = { λ l. l.table.shared.table_id.words ≡ 3 };
 }
 
 impl<V: Held> TurnLock<V> {
@@ -52,7 +52,7 @@ impl<V: Held> TurnLock<V> {
         ensures started { IfOk result (λ r. BeginsAs V.stands value r.1.list) }
     {
         let about = Snapshot::of(&value);
-        let words = [0, 0, value.len(), 1];
+        let words = [FREE, value.len(), 1];
         let value = Box::new(alloc, value)?;
         let mut slots = Vec::with_capacity(alloc, 1)?;
         slots.push(Some(value))?;

@@ -1,7 +1,7 @@
 //! What each step on the table tells. These types are for the proofs alone.
 ghost use Rattle.std.specs.Prelude.{Option, None};
 ghost use Rattle.rs_turn.specs.Origins.{StandsFrom};
-ghost use Rattle.rs_turn.specs.Plays.{DrawsTicket, Books, Passes, Sees, Numbers, CountsLog, Adopts, Looks, at_stage, parted, informed, spent};
+ghost use Rattle.rs_turn.specs.Plays.{Grabs, Books, Passes, Sees, Numbers, CountsLog, Adopts, at_stage, parted, informed, spent};
 ghost use Rattle.rs_turn.specs.declared.board.Stage.TheVariants.{Idle};
 
 use crate::board::View;
@@ -10,18 +10,11 @@ use atomic_table::{Join, Play, Split};
 use std::alloc::Global;
 use std::marker::{Brand, PhantomData};
 
-/// A ticket is drawn.
-pub(crate) struct Draw;
+/// The seat takes the value, if it is free.
+pub(crate) struct Grab;
 
-impl<S, W, O> Play<S, View<W, O>> for Draw {
-    ghost then = { λ _ m r n. DrawsTicket m r n };
-}
-
-/// The ticket that is served is looked at. Where it is the seat's own, the seat takes the value.
-pub(crate) struct Look;
-
-impl<V: Held> Play<Option<Box<V, Global>>, View<V::What, V>> for Look {
-    ghost then = { λ _ m r n. Looks (λ o b. StandsFrom V.stands V.basis o b.value) m r n };
+impl<V: Held> Play<Option<Box<V, Global>>, View<V::What, V>> for Grab {
+    ghost then = { λ _ m r n. Grabs (λ o b. StandsFrom V.stands V.basis o b.value) m r n };
 }
 
 /// The entry that a turn adds, if it adds one. A call at `Brand` picks it.
@@ -42,7 +35,7 @@ impl<S, W, O, E: Told<W>> Play<S, View<W, O>> for Book<E> {
     ghost then = { λ _ m r n. Books E.entry m r n };
 }
 
-/// The value comes home, and the next ticket is served.
+/// The value comes home, and is free.
 pub(crate) struct Pass;
 
 impl<S, W, O> Play<S, View<W, O>> for Pass {

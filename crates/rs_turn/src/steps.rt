@@ -1,35 +1,27 @@
 //! The single steps of a seat on the table.
 ghost use Rattle.std.specs.Prelude.{◌≡◌, ℕ, ◌+◌, ◌^◌, ◌<◌, ◌⊎◌, [], ◌∷◌, length};
-ghost use Rattle.rs_turn.specs.declared.board.Stage.TheVariants.{Idle, Waiting, Holding, Looked, Drew};
+ghost use Rattle.rs_turn.specs.declared.board.Stage.TheVariants.{Idle, Holding, Looked, Drew};
 ghost use Rattle.rs_turn.specs.Places.{IsPlaceOf, IsAtRest, grown_by};
-ghost use Rattle.rs_turn.specs.Plays.{DrawsTicket, Books, Passes, Sees, Numbers, CountsLog, Adopts, Looks, at_stage, parted, informed, spent};
+ghost use Rattle.rs_turn.specs.Plays.{Grabs, Books, Passes, Sees, Numbers, CountsLog, Adopts, at_stage, parted, informed, spent};
 ghost use Rattle.rs_path.specs.Logs.{StartsWith};
 ghost use Rattle.rs_turn.specs.Origins.{StandsFrom};
 
-use crate::board::{Board, COUNT, MADE, Place, SERVING, TICKET};
+use crate::board::{Board, COUNT, FREE, MADE, Place, TURN, WANTED};
 use crate::held::Held;
-use crate::plays::{Adopt, Book, Count, Draw, Inform, Look, Number, Part, Pass, See, Told};
+use crate::plays::{Adopt, Book, Count, Grab, Inform, Number, Part, Pass, See, Told};
 use std::alloc::Global;
 use std::snapshot::Snapshot;
 
-/// Draws a ticket.
-pub(crate) fn draw<V: Held>(board: &Board<V>, place: &mut Place<V>) -> u64
+/// Takes the value if it is free, and leaves this mark, or a greater one that stood there: what was
+/// found.
+pub(crate) fn grab<V: Held>(board: &Board<V>, place: &mut Place<V>, mark: u64) -> u64
     requires place { IsPlaceOf board.now.table_id place.old }
     requires rest { IsAtRest place.old }
+    requires mark { 0 < mark }
     ensures table { place.new.table_id ≡ place.old.table_id }
-    ensures drawn { DrawsTicket place.old.me result place.new.me }
+    ensures grabbed { Grabs (λ o b. StandsFrom V.stands V.basis o b.value) place.old.me result place.new.me }
 {
-    board.fetch_add::<Draw>(place, TICKET, 1)
-}
-
-/// The ticket that is served.
-pub(crate) fn look<V: Held>(board: &Board<V>, place: &mut Place<V>) -> u64
-    requires place { IsPlaceOf board.now.table_id place.old }
-    requires waits { (place.old.me.1 ≡ []) × ((t : ℕ) × (place.old.me.0.stage ≡ Waiting t)) }
-    ensures table { place.new.table_id ≡ place.old.table_id }
-    ensures looked { Looks (λ o b. StandsFrom V.stands V.basis o b.value) place.old.me result place.new.me }
-{
-    board.load::<Look>(place, SERVING)
+    board.fetch_max::<Grab>(place, TURN, mark)
 }
 
 /// Adds the entry to the history, if there is one.
@@ -42,7 +34,7 @@ pub(crate) fn book<E: Told<V::What>, V: Held, D>(
     _who: u64,
 )
     requires place { IsPlaceOf board.now.table_id place.old }
-    requires holds { (t : ℕ) × (place.old.me.0.stage ≡ Holding t) }
+    requires holds { place.old.me.0.stage ≡ Holding }
     requires entry { more ≡ grown_by E.entry }
     requires room { length place.old.me.0.seen + more < 2 ^ 64 }
     ensures table { place.new.table_id ≡ place.old.table_id }
@@ -51,20 +43,19 @@ pub(crate) fn book<E: Told<V::What>, V: Held, D>(
     board.fetch_add::<Book<E>>(place, COUNT, more);
 }
 
-/// Puts the value back, and lets the next seat have its turn.
+/// Puts the value back, and wakes one who may sleep.
 pub(crate) fn pass<V: Held>(board: &Board<V>, place: &mut Place<V>, value: Box<V, Global>)
     requires place { IsPlaceOf board.now.table_id place.old }
-    requires holds { (place.old.me.1 ≡ (0, None) ∷ []) × ((t : ℕ) × (place.old.me.0.stage ≡ Holding t)) }
+    requires holds { (place.old.me.1 ≡ (0, None) ∷ []) × (place.old.me.0.stage ≡ Holding) }
     requires value { (o : V) × (place.old.me.0.origin ≡ Some o) × StandsFrom V.stands V.basis o value.value place.old.me.0.seen }
     ensures table { place.new.table_id ≡ place.old.table_id }
     ensures passed { Passes place.old.me 0 place.new.me }
 {
     let empty = board.exchange(place, 0, Some(value));
     let None = empty else { unreachable!() };
-    let served = board.fetch_add::<Pass>(place, SERVING, 1);
-    // Nobody waits where no ticket is out. Who draws one later finds the word as it is now.
-    if board.peek(TICKET) != served.wrapping_add(1) {
-        board.wake_all(SERVING);
+    // Who sleeps has left `WANTED` before, and who is woken leaves it again for the others.
+    if board.swap::<Pass>(place, TURN, FREE) == WANTED {
+        board.wake_one(TURN);
     }
 }
 

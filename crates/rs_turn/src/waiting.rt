@@ -1,13 +1,12 @@
 //! Waiting for the turn.
-ghost use Rattle.std.specs.Prelude.{◌≡◌, ℕ, ◌%◌, ◌^◌, []};
-ghost use Rattle.rs_turn.specs.declared.board.Stage.TheVariants.{Waiting};
+ghost use Rattle.std.specs.Prelude.{◌≡◌, true, false};
 ghost use Rattle.rs_turn.specs.Origins.{StandsFrom};
 ghost use Rattle.rs_turn.specs.Places.{IsPlaceOf, IsAtRest, HasTaken};
 ghost use Rattle.rs_turn.specs.Plays.{TakesValue};
 
-use crate::board::{Board, Place, SERVING};
+use crate::board::{Board, FREE, HELD, Place, TURN, WANTED};
 use crate::held::Held;
-use crate::steps::{draw, look};
+use crate::steps::grab;
 use std::alloc::Global;
 use std::hint;
 use std::sync::Wait;
@@ -15,25 +14,44 @@ use std::sync::Wait;
 /// So often a seat looks before it sleeps.
 const LOOKS: u32 = 64;
 
-/// Looks until the ticket is served, and sleeps between looks after the first few.
-fn wait<V: Held, R: Wait>(rt: &R, board: &Board<V>, place: &mut Place<V>, ticket: u64)
+/// Takes the value if it is free within a few looks, and says whether. Where another sleeps already
+/// it looks no more.
+fn glance<V: Held>(board: &Board<V>, place: &mut Place<V>) -> bool
     requires place { IsPlaceOf board.now.table_id place.old }
-    requires waits { (place.old.me.1 ≡ []) × ((t : ℕ) × (place.old.me.0.stage ≡ Waiting t) × (ticket ≡ t % 2 ^ 64)) }
+    requires rest { IsAtRest place.old }
     ensures table { place.new.table_id ≡ place.old.table_id }
-    ensures taken { (t : ℕ) × TakesValue (λ o b. StandsFrom V.stands V.basis o b.value) place.old.me.0 t place.new.me }
+    ensures taken { result ≡ true → TakesValue (λ o b. StandsFrom V.stands V.basis o b.value) place.old.me.0 place.new.me }
+    ensures missed { result ≡ false → place.new.me ≡ place.old.me }
 {
-    let mut looks = 0;
+    for _ in 0..LOOKS {
+        let found = board.peek(TURN);
+        if found == FREE && grab(board, place, HELD) == FREE {
+            return true;
+        }
+        if found == WANTED {
+            return false;
+        }
+        hint::spin_loop();
+    }
+    false
+}
+
+/// Takes the value, and sleeps until it is free where a glance didn't get it.
+fn wait<V: Held, R: Wait>(rt: &R, board: &Board<V>, place: &mut Place<V>)
+    requires place { IsPlaceOf board.now.table_id place.old }
+    requires rest { IsAtRest place.old }
+    ensures table { place.new.table_id ≡ place.old.table_id }
+    ensures taken { TakesValue (λ o b. StandsFrom V.stands V.basis o b.value) place.old.me.0 place.new.me }
+{
+    if glance(board, place) {
+        return;
+    }
     for _ in rt.forever() {
-        let found = look(board, place);
-        if found == ticket {
+        // It sleeps only after it has left `WANTED`, so that the pass wakes it or another.
+        if grab(board, place, WANTED) == FREE {
             return;
         }
-        if looks < LOOKS {
-            looks += 1;
-            hint::spin_loop();
-        } else {
-            board.park(rt, SERVING, (found % (1 << 32)) as u32);
-        }
+        board.park(rt, TURN, WANTED as u32);
     }
     unreachable!()
 }
@@ -49,7 +67,6 @@ pub(crate) fn take<V: Held, R: Wait>(
     ensures table { place.new.table_id ≡ place.old.table_id }
     ensures taken { HasTaken (λ o b. StandsFrom V.stands V.basis o b.value) place.old.me.0 result place.new.me }
 {
-    let ticket = draw(board, place);
-    wait(rt, board, place, ticket);
+    wait(rt, board, place);
     board.exchange(place, 0, None).unwrap()
 }

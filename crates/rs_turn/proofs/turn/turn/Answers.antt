@@ -17,17 +17,17 @@ returns-clause-turn g c =
     let asked : c.of-asked.result.value ≡ c.args.deed.now = search rules in
     let lent : c.take-value.result.value ≡ c.deref_mut.result.now = search rules in
     let was : c.of-was.result.value ≡ c.deref_mut.result.now = search rules in
-    let stood = subst (λ v. g.V.Held.stands v mid) lent took.4.0 in
-    let based : HasBasisOf g.V.Held.basis c.args.place.now.me.0.origin c.deref_mut.result.now = (took.1, took.2, subst (λ v. g.V.Held.basis v ≡ g.V.Held.basis took.1) lent took.4.1) in
-    let who : c.take-value.new.place.me.0.number ≡ c.args.who = ap (λ v. v.number) took.7 ∙ sym c.requires.who in
+    let stood = subst (λ v. g.V.Held.stands v mid) lent took.3.0 in
+    let based : HasBasisOf g.V.Held.basis c.args.place.now.me.0.origin c.deref_mut.result.now = (took.0, took.1, subst (λ v. g.V.Held.basis v ≡ g.V.Held.basis took.0) lent took.3.1) in
+    let who : c.take-value.new.place.me.0.number ≡ c.args.who = ap (λ v. v.number) took.6 ∙ sym c.requires.who in
     let same : (own c.args.who mid ≡ own c.args.who c.args.place.now.me.0.seen)
-    = subst (λ (n : ℕ). own n mid ≡ own n c.args.place.now.me.0.seen) (sym c.requires.who) took.6 in
+    = subst (λ (n : ℕ). own n mid ≡ own n c.args.place.now.me.0.seen) (sym c.requires.who) took.5 in
     let after : (c.pass.new.place.me.0.seen ≡ extended mid c.args.who (added more (g.D.Deed.adds c.args.deed.now c.deref_mut.result.now c.args.who)))
     = ap (λ v. v.seen) c.pass.ensures.passed.1 ∙ (ap (λ v. v.seen) c.book.ensures.booked.1
     ∙ (ap (λ (n : ℕ). extended mid n (added more (g.D.Deed.adds c.of-asked.result.value c.of-was.result.value c.args.who))) who
     ∙ (ap (λ d. extended mid c.args.who (added more (g.D.Deed.adds d c.of-was.result.value c.args.who))) asked
     ∙ ap (λ v. extended mid c.args.who (added more (g.D.Deed.adds c.args.deed.now v c.args.who))) was))) in
-    tells _ _ _ _ _ _ _ _ _ _ _ _ _ _ _ (c.act-done.ensures.acted _ stood) stood based took.5 c.requires.started same after
+    tells _ _ _ _ _ _ _ _ _ _ _ _ _ _ _ (c.act-done.ensures.acted _ stood) stood based took.4 c.requires.started same after
 
 pub returns-clause-started : goal.returns-clause-started
 returns-clause-started g c =
@@ -36,4 +36,4 @@ returns-clause-started g c =
     let origin = c.args.place.now.me.0.origin in
     let after = ap (λ v. v.seen) c.pass.ensures.passed.1 ∙ ap (λ v. v.seen) c.book.ensures.booked.1 in
     subst (λ (list : List (LogEntry g.row.V-What.Denot)). BeginsAsMade g.V.Held.stands origin list) (sym after)
-    (begins_on g.V.Held.stands origin _ c.args.place.now.me.0.seen (begins_extended mid c.args.place.now.me.0.seen _ _ took.5) c.requires.started)
+    (begins_on g.V.Held.stands origin _ c.args.place.now.me.0.seen (begins_extended mid c.args.place.now.me.0.seen _ _ took.4) c.requires.started)

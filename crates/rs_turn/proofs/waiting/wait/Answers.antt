@@ -4,9 +4,7 @@ use Rattle.rs_turn.specs.Origins.{StandsFrom}
 use Rattle.rs_turn.specs.Plays.{TakesValue}
 use Rattle.rs_turn.proofs.waiting.wait.Goals as goal
 
-pub returns-then-found-ticket-clause-taken : goal.returns-then-found-ticket-clause-taken
-returns-then-found-ticket-clause-taken g c =
-    let waits = c.requires.waits.1 in
-    let same = c.loop.invariant.1 in
-    let took = (c.look-found.ensures.looked waits.0 (ap (λ m. m.0.stage) same ∙ waits.1)).0 (c.if-found-ticket.true ∙ waits.2) in
-    (waits.0, subst (λ (v : View g.row.V-What.Denot g.row.V.Denot). TakesValue (λ o b. StandsFrom g.V.Held.stands g.V.Held.basis o b.value) v waits.0 c.look-found.new.place.me) (ap (λ m. m.0) same) took)
+pub returns-then-grab-eq-FREE-clause-taken : goal.returns-then-grab-eq-FREE-clause-taken
+returns-then-grab-eq-FREE-clause-taken g c =
+    let took = c.grab.ensures.grabbed.0 c.if-grab-eq-FREE.true in
+    subst (λ (v : View g.row.V-What.Denot g.row.V.Denot). TakesValue (λ o b. StandsFrom g.V.Held.stands g.V.Held.basis o b.value) v c.grab.new.place.me) (ap (λ m. m.0) (c.loop.invariant.1 ∙ c.glance.ensures.missed c.if-glance.false)) took
