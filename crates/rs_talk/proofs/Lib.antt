@@ -1,2 +1,4 @@
 mod RootLemmas
 mod ReadBackLemmas
+mod AskLemmas
+mod PlaceLemmas

@@ -1,4 +1,9 @@
-pub mod Limits
+pub mod AnswerReadings
+pub mod AskLines
+pub mod Asks
 pub mod Bearers
-pub mod Roots
 pub mod Changes
+pub mod FieldCounts
+pub mod Limits
+pub mod Places
+pub mod Roots
