@@ -2,3 +2,4 @@ mod RootLemmas
 mod ReadBackLemmas
 mod AskLemmas
 mod PlaceLemmas
+mod AnswerLemmas

@@ -8,13 +8,13 @@ use Rattle.rs_reply.specs.declared.message.ReplyMessage.{ReplyMessage}
 use Rattle.rs_reply.specs.Replies.{reply_of}
 
 -- what is read of the bytes as a reply without a body: they are it, or too many from a place on
-abbrev pub end_of : List ℕ → Result ReplyMessage ℕ → ℕ
-end_of bytes (Ok m) = length bytes
-end_of bytes (Err place) = place
+abbrev pub end_read : List ℕ → Result ReplyMessage ℕ → ℕ
+end_read bytes (Ok m) = length bytes
+end_read bytes (Err place) = place
 
 -- the place behind the head of the reply: without a body, it would end there
 abbrev pub head_end : List ℕ → ℕ
-head_end bytes = end_of bytes (reply_of true bytes)
+head_end bytes = end_read bytes (reply_of true bytes)
 
 -- the text behind an empty line, where there is one
 abbrev pub or_before : List ℕ → List ℕ → List ℕ

@@ -1,6 +1,9 @@
 //! What a client asks.
 
-ghost use Rattle.std.specs.Prelude.{◌≡◌};
+ghost use Rattle.std.specs.Prelude.{◌≡◌, true};
+ghost use Rattle.rs_path.specs.Items.{holds_of};
+ghost use Rattle.rs_path.specs.Tags.{is_tag};
+ghost use Rattle.rs_talk.specs.AskRequests.{has_ask_parts};
 ghost use Rattle.rs_talk.specs.Asks.{ask_path, ask_method, ask_body};
 
 use rs_path::{Bytes, Kind, Path, Tag};
@@ -69,5 +72,31 @@ impl Ask {
             Ask::Document { .. } => b"",
             Ask::Remove { .. } => b"",
         }
+    }
+
+    // Reads nothing: it says what the types of the parts promise.
+    pub(crate) fn look(&self)
+        ensures parts { has_ask_parts self.now ≡ true }
+    {
+        self.path().names();
+        match self {
+            Ask::Folder { known, .. } => look_at_tag(known),
+            Ask::Document { known, .. } => look_at_tag(known),
+            Ask::Put { base, kind, .. } => {
+                look_at_tag(base);
+                kind.as_slice();
+            }
+            Ask::Remove { base, .. } => {
+                base.as_slice();
+            }
+        }
+    }
+}
+
+fn look_at_tag(tag: &Option<Tag>)
+    ensures part { holds_of is_tag tag.now ≡ true }
+{
+    if let Some(tag) = tag {
+        tag.as_slice();
     }
 }

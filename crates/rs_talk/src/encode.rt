@@ -1,8 +1,9 @@
 //! Asks, written as requests (RFC 9112, sections 3 to 6).
 
-ghost use Rattle.std.specs.Prelude.{◌≡◌, ◌++◌, ◌∷◌, [], IfOk, OnOk, OnErr};
+ghost use Rattle.std.specs.Prelude.{◌≡◌, ◌++◌, ◌∷◌, [], true, IfOk, OnOk, OnErr};
 ghost use Rattle.rs_request.specs.Writing.{fields_text, request_head_text};
-ghost use Rattle.rs_talk.specs.Asks.{ask_message, ask_text, ask_target, ask_method, host_sent, token_sent, kind_sent, kinds_sent, conditions_sent, length_sent, lengths_sent, close_sent, unless_known, while_based, strong_text};
+ghost use Rattle.rs_talk.specs.Asks.{is_ask, ask_message, ask_text, ask_target, ask_method, host_sent, token_sent, kind_sent, kinds_sent, conditions_sent, length_sent, lengths_sent, close_sent, unless_known, while_based, strong_text};
+ghost use Rattle.rs_talk.specs.AskRequests.{IsAsking};
 ghost use Rattle.rs_talk.specs.AskLines.{ask_start, lines_sent};
 
 use crate::ask::Ask;
@@ -27,9 +28,20 @@ pub fn encode_request(
 ) -> Result<(), NoMemory>
     ensures ok { OnOk result (out.new.items ≡ out.old.items ++ ask_text root.now token.now ask.now) }
     ensures err { OnErr result (out.new.items ≡ out.old.items) }
+    ensures asking { is_ask ask.now ≡ true → IsAsking root.now token.now ask.now }
 {
+    look(root, token, ask);
     let head = ask_head(alloc, root, token, ask)?;
     put_both(head.as_slice(), ask.body(), out)
+}
+
+// Reads nothing: it says what the types of the parts promise.
+fn look(root: &Root, token: &Bearer, ask: &Ask)
+    ensures asking { is_ask ask.now ≡ true → IsAsking root.now token.now ask.now }
+{
+    root.as_slice();
+    token.as_slice();
+    ask.look();
 }
 
 // The head of the request.

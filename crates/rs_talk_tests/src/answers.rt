@@ -125,8 +125,8 @@ fn replies_are_read_as_answers(rt: HostRuntime) -> Result<(), Fail> {
 const REFUSED: &str = r#"
 get /a -: => bad at 0
 get /a -: no reply\r\n\r\n => bad at 0
-get /a -: HTTP/1.1 200 OK\r\nETag: "2"\r\nContent-Length: 5\r\n\r\nhell => bad at 51
-get /a -: HTTP/1.1 200 OK\r\nETag: "2"\r\nContent-Length: 5\r\n\r\nhello! => bad at 52
+get /a -: HTTP/1.1 200 OK\r\nETag: "2"\r\nContent-Length: 5\r\n\r\nhell => bad at 53
+get /a -: HTTP/1.1 200 OK\r\nETag: "2"\r\nContent-Length: 5\r\n\r\nhello! => bad at 54
 get /a -: HTTP/1.1 200 OK\r\n\r\nhello => bad at 0
 get /a -: \r\n\nHTTP/1.1 200 OK\r\n\r\nhello => bad at 3
 get /a -: HTTP/1.1 100 Continue\r\n\r\nHTTP/1.1 200 OK\r\n\r\nhello => bad at 25
