@@ -1,14 +1,13 @@
 -- The replies that come to an ask are among those that its asker can read.
-use Rattle.std.proofs.Common.{◌≡◌, ℕ, Bool, true, false, not, ◌&&◌, nat_le, nat_lt, List, [], ◌∷◌, Option, Some, None, is_some, option_map, unwrap_or, if◌then◌else◌, refl, sym, ap, ◌∙◌, subst}
+use Rattle.std.proofs.Common.{◌≡◌, ℕ, Bool, true, false, not, ◌&&◌, nat_le, nat_lt, List, [], ◌∷◌, Option, Some, None, is_some, unwrap_or, if◌then◌else◌, refl, sym, ap, ◌∙◌}
 use Rattle.std.specs.Option.{option_or}
 use Rattle.std.proofs.lemmas.Bool.{cond-true, cond-false}
 use Rattle.rs_path.specs.Items.{holds_of}
 use Rattle.rs_path.specs.Paths.{Path}
 use Rattle.rs_rules.specs.declared.call.Call.{Call}
-use Rattle.rs_rules.specs.declared.cond.Cond.{Cond}
 use Rattle.rs_rules.specs.declared.doc.Doc.{Doc}
 use Rattle.rs_rules.specs.declared.reply.Reply.{Reply}
-use Rattle.rs_rules.specs.declared.reply.Reply.TheVariants.{Found, Folder, Same, NoToken, BadToken, Forbidden, FolderWrite, Clash, Absent, Unmet, RecordsFull, OverQuota, FolderFull}
+use Rattle.rs_rules.specs.declared.reply.Reply.TheVariants.{Folder, Same, NoToken, BadToken, Forbidden, FolderWrite, Clash, Absent, Unmet, RecordsFull, OverQuota, FolderFull}
 use Rattle.rs_rules.specs.Answers.{when, clash_reply, full_reply, first_of, early_steps, limit_steps, last_step, is_present, path_version, is_put, is_write, shows_none, shows_ungranted, is_beyond, live_after, shown, shown_doc, answer_call_in, answer}
 use Rattle.rs_rules.specs.Clashes.{clash_in, full_in}
 use Rattle.rs_rules.specs.Conditions.{excludes, meets}

@@ -1,4 +1,4 @@
-use Rattle.std.proofs.Common.{◌≡◌, ℕ, List, drop, length, sym, ap, ◌∙◌}
+use Rattle.std.proofs.Common.{sym, ap, ◌∙◌}
 use Rattle.rs_talk.specs.Places.{last_part}
 use Rattle.rs_talk.proofs.PlaceLemmas.{no_line, last_alone, last_behind, sought, rest_all}
 use Rattle.rs_request.specs.declared.search.Spot.TheVariants.{Before}
