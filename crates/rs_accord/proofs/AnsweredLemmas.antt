@@ -6,7 +6,7 @@ use Rattle.std.proofs.lemmas.Bool.Decides.{nat_tests}
 use Rattle.std.proofs.lemmas.Fmt.{decimal_by_steps, decimal_nonempty, length-decimal-le}
 use Rattle.std.proofs.lemmas.List.{length-append, get_or_push}
 use Rattle.std.proofs.lemmas.List.Folds.{list_all-append}
-use Rattle.std.proofs.lemmas.Math.Seq.{take-append_seam}
+use Rattle.std.proofs.Math.Seq.{take-append_seam}
 use Rattle.rs_path.specs.declared.entry.Entry.{Entry}
 use Rattle.rs_path.specs.Items.{is_entry, is_item, is_ascending}
 use Rattle.rs_path.specs.Kinds.{is_kind}
