@@ -1,9 +1,11 @@
 -- The request of a user's history that an ask is (RFC 9110, section 13; RFC 6750, section 2.1).
-use Rattle.std.specs.Prelude.{◌≡◌, ℕ, Bool, true, false, ◌&&◌, List, [], ◌∷◌, Option, Some, None}
+use Rattle.std.specs.Prelude.{◌≡◌, ℕ, Bool, true, false, ◌&&◌, List, [], ◌∷◌, Option, Some, None, Ok}
 use Rattle.rs_path.specs.Items.{holds_of}
 use Rattle.rs_path.specs.Kinds.{is_kind}
 use Rattle.rs_path.specs.Paths.{is_path}
+use Rattle.rs_path.specs.Readings.{target_reading}
 use Rattle.rs_path.specs.Tags.{is_tag}
+use Rattle.rs_path.specs.Targets.{target_text}
 use Rattle.rs_scope.specs.declared.method.Method.TheVariants as methods
 use Rattle.rs_scope.specs.Tokens.{token_reading}
 use Rattle.rs_record.specs.declared.records.Record.{Record}
@@ -18,7 +20,7 @@ use Rattle.rs_rules.specs.Answers.{brought}
 use Rattle.rs_talk.specs.declared.ask.Ask.{Ask}
 use Rattle.rs_talk.specs.declared.ask.Ask.TheVariants.{Folder, Document, Put, Remove}
 use Rattle.rs_talk.specs.AnswerReadings.{unknown_kind}
-use Rattle.rs_talk.specs.Asks.{is_ask}
+use Rattle.rs_talk.specs.Asks.{ask_path, is_ask}
 use Rattle.rs_talk.specs.Bearers.{is_bearer}
 use Rattle.rs_talk.specs.Roots.{Root, IsRoot}
 
@@ -31,12 +33,14 @@ has_ask_parts (Document path known) = is_path path && holds_of is_tag known
 has_ask_parts (Put path base kind body) = is_path path && (holds_of is_tag base && is_kind kind)
 has_ask_parts (Remove path base) = is_path path && is_tag base
 
--- an ask below a root, with a token, as a program makes it: of a folder where a folder is asked for, else of a document
+-- an ask below a root, with a token, as a program makes it: of a folder where a folder is asked for, else of a document; a
+-- path is read back from what it is in a target
 pub record IsAsking (root : Root) (token : List ℕ) (ask : Ask) : Type 0 where
   pub account : IsRoot root
   pub bearer : is_bearer token ≡ true
   pub path : is_ask ask ≡ true
   pub parts : has_ask_parts ask ≡ true
+  pub back : target_reading (target_text (ask_path ask)) ≡ Ok (ask_path ask)
 
 -- ---- the request
 

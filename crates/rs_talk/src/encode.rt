@@ -1,8 +1,10 @@
 //! Asks, written as requests (RFC 9112, sections 3 to 6).
 
-ghost use Rattle.std.specs.Prelude.{◌≡◌, ◌++◌, ◌∷◌, [], true, IfOk, OnOk, OnErr};
+ghost use Rattle.std.specs.Prelude.{◌≡◌, ◌++◌, ◌∷◌, [], true, Ok, IfOk, OnOk, OnErr};
+ghost use Rattle.rs_path.specs.Readings.{target_reading};
+ghost use Rattle.rs_path.specs.Targets.{target_text};
 ghost use Rattle.rs_request.specs.Writing.{fields_text, request_head_text};
-ghost use Rattle.rs_talk.specs.Asks.{is_ask, ask_message, ask_text, ask_target, ask_method, host_sent, token_sent, kind_sent, kinds_sent, conditions_sent, length_sent, lengths_sent, close_sent, unless_known, while_based, strong_text};
+ghost use Rattle.rs_talk.specs.Asks.{is_ask, ask_path, ask_message, ask_text, ask_target, ask_method, host_sent, token_sent, kind_sent, kinds_sent, conditions_sent, length_sent, lengths_sent, close_sent, unless_known, while_based, strong_text};
 ghost use Rattle.rs_talk.specs.AskRequests.{IsAsking};
 ghost use Rattle.rs_talk.specs.AskLines.{ask_start, lines_sent};
 
@@ -28,7 +30,7 @@ pub fn encode_request(
 ) -> Result<(), NoMemory>
     ensures ok { OnOk result (out.new.items ≡ out.old.items ++ ask_text root.now token.now ask.now) }
     ensures err { OnErr result (out.new.items ≡ out.old.items) }
-    ensures asking { is_ask ask.now ≡ true → IsAsking root.now token.now ask.now }
+    ensures asking { OnOk result (is_ask ask.now ≡ true → IsAsking root.now token.now ask.now) }
 {
     look(root, token, ask);
     let head = ask_head(alloc, root, token, ask)?;
@@ -37,7 +39,8 @@ pub fn encode_request(
 
 // Reads nothing: it says what the types of the parts promise.
 fn look(root: &Root, token: &Bearer, ask: &Ask)
-    ensures asking { is_ask ask.now ≡ true → IsAsking root.now token.now ask.now }
+    ensures asking { is_ask ask.now ≡ true → target_reading (target_text (ask_path ask.now)) ≡ Ok (ask_path ask.now)
+        → IsAsking root.now token.now ask.now }
 {
     root.as_slice();
     token.as_slice();
@@ -47,6 +50,7 @@ fn look(root: &Root, token: &Bearer, ask: &Ask)
 // The head of the request.
 fn ask_head(alloc: Global, root: &Root, token: &Bearer, ask: &Ask) -> Result<Vec<u8>, NoMemory>
     ensures head { IfOk result (λ head. head.items ≡ request_head_text (ask_message root.now token.now ask.now)) }
+    ensures back { OnOk result (target_reading (target_text (ask_path ask.now)) ≡ Ok (ask_path ask.now)) }
 {
     let mut head = Vec::new(alloc);
     put_request_line(&mut head, root, ask)?;
@@ -62,6 +66,7 @@ fn ask_head(alloc: Global, root: &Root, token: &Bearer, ask: &Ask) -> Result<Vec
 #[tactic(auto, using(std::proofs::Common::append_assoc))]
 fn put_request_line(out: &mut Vec<u8>, root: &Root, ask: &Ask) -> Result<(), NoMemory>
     ensures put { OnOk result (out.new.items ≡ out.old.items ++ ask_start root.now ask.now) }
+    ensures back { OnOk result (target_reading (target_text (ask_path ask.now)) ≡ Ok (ask_path ask.now)) }
 {
     put_text(out, ask.method())?;
     put_text(out, b" ")?;
@@ -73,6 +78,7 @@ fn put_request_line(out: &mut Vec<u8>, root: &Root, ask: &Ask) -> Result<(), NoM
 #[tactic(auto, using(std::proofs::Common::append_assoc))]
 fn put_target(out: &mut Vec<u8>, root: &Root, ask: &Ask) -> Result<(), NoMemory>
     ensures put { OnOk result (out.new.items ≡ out.old.items ++ ask_target root.now ask.now) }
+    ensures back { OnOk result (target_reading (target_text (ask_path ask.now)) ≡ Ok (ask_path ask.now)) }
 {
     put_text(out, root.path())?;
     ask.path().write_target(out)?;
