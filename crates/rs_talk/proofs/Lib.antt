@@ -1,2 +1,5 @@
 mod RootLemmas
 mod ReadBackLemmas
+mod AskLemmas
+mod PlaceLemmas
+mod AnswerLemmas

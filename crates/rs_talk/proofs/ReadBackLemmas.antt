@@ -1,6 +1,6 @@
 -- The text of a root is read as that root.
-use Rattle.std.proofs.Common.{reverse, ◌≡◌, ◌≢◌, ℕ, ◌+◌, ◌-◌, ◌<◌, ◌≤◌, Bool, true, false, not, ◌&&◌, ◌||◌, ◌==◌, nat_le, nat_lt, List, [], ◌∷◌, ◌++◌, length, get_or, take, drop, codes, bytes_eq, Option, Some, None, is_none, is_some, Ok, Err, All, arith, refl, sym, ap, ◌∙◌, subst, inl, inr, ⊎_elim, append_assoc, append-nil, length-append, take_all, take_at, drop_at}
-use Rattle.std.specs.List.{concat, prefix_len}
+use Rattle.std.proofs.Common.{reverse, ◌≡◌, ℕ, ◌-◌, ◌<◌, ◌≤◌, Bool, true, false, not, ◌&&◌, ◌||◌, ◌==◌, nat_le, nat_lt, List, [], ◌∷◌, ◌++◌, length, get_or, take, drop, codes, bytes_eq, Option, Some, None, is_none, Ok, Err, All, arith, refl, sym, ap, ◌∙◌, subst, inl, ⊎_elim, append_assoc, length-append, take_all, take_at, drop_at}
+use Rattle.std.specs.List.{prefix_len}
 use Rattle.std.specs.Str.{is_utf8, IsAscii}
 use Rattle.std.proofs.lemmas.Bool.{cond-true, cond-false, cases_Bool, and_right, and_from, or_parts, false≢true}
 use Rattle.std.proofs.lemmas.Bool.Decides.{nat_tests}
@@ -12,10 +12,10 @@ use Rattle.std.proofs.lemmas.Str.Ascii.{IsAscii-from_all, All-from_ascii}
 use Rattle.url.specs.declared.scheme.SchemeType.{SchemeType}
 use Rattle.url.specs.declared.scheme.SchemeType.TheVariants.{SpecialNotFile}
 use Rattle.url.specs.declared.slicing.Position.TheVariants.{BeforeUsername, AfterPort, AfterPath}
-use Rattle.url.specs.Input.{is_empty, when, is_c0_control_or_space, is_tab_or_new_line, trim_c0_control_and_space, strip_tabs_and_new_lines, split_once}
+use Rattle.url.specs.Input.{is_empty, is_c0_control_or_space, is_tab_or_new_line, trim_c0_control_and_space, strip_tabs_and_new_lines, split_once}
 use Rattle.url.specs.Scheme.{IsScheme, default_port, scheme_type, is_special, is_slash}
 use Rattle.url.specs.Path.{parse_path_start, IsSegment, join_segments, IsSegmentList}
-use Rattle.url.specs.Parts.{Parts, kind_of, has_authority, host_or_empty, pieces, serialize, text_before, text_between, IsValidHead, IsValid}
+use Rattle.url.specs.Parts.{Parts, kind_of, has_authority, host_or_empty, serialize, text_before, text_between, IsValidHead, IsValid}
 use Rattle.url.specs.Parser.{and_then, parse_authority, with_path, with_tail, before_tail, skip_slashes, after_double_slash, parse_body, parse_parts, split_scheme, parse_by_scheme, parse_url}
 use Rattle.url.proofs.InputLemmas.{IsNot, Passes, StopsAt, split_once_none, prefix_len_at, filter_all, All_from_list_all, is_empty-nil}
 use Rattle.url.specs.Host.{IsHostOf}
@@ -26,7 +26,7 @@ use Rattle.url.proofs.TextLemmas.{is_authority_byte, authority_bytes}
 use Rattle.url.proofs.Theorems.{parse_url-serialize_special}
 use Rattle.url.proofs.ValidLemmas.{hierarchical, base_from_authority, IsAscii-serialize}
 use Rattle.rs_path.specs.Paths.{is_nil}
-use Rattle.rs_talk.specs.Roots.{Root, root_text, bared, without_slashes, is_root_address, root_in, root_at, root_of, root_reading, IsRoot}
+use Rattle.rs_talk.specs.Roots.{Root, root_text, bared, without_slashes, is_root_address, root_in, root_of, root_reading, IsRoot}
 use Rattle.rs_talk.specs.declared.root_fault.RootFault.TheVariants.{BadUrl}
 use Rattle.rs_talk.proofs.RootLemmas.{without_slashes-short}
 

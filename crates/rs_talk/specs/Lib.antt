@@ -1,4 +1,13 @@
-pub mod Limits
+pub mod AnswerReadings
+pub mod AskLines
+pub mod AskRequests
+pub mod Asks
 pub mod Bearers
-pub mod Roots
+pub mod Carried
 pub mod Changes
+pub mod FieldCounts
+pub mod Limits
+pub mod Places
+pub mod ReplyAnswers
+pub mod Roots
+pub mod Tales

@@ -1,0 +1,5 @@
+mod AddingLemmas
+mod ConnectingLemmas
+mod PuttingLemmas
+mod ReadingLemmas
+mod TextLemmas
