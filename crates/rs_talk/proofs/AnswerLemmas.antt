@@ -80,25 +80,47 @@ early_ok P s c plain same =
     let free = is_free_read c.method c.path in
     let there = is_present s c in
     let version = path_version s c in
-    first_ok P (early_steps s c)
-    (when_ok P (not free && shows_none c.pass) NoToken plain.no_token,
-    (when_ok P (not free && shows_ungranted s c.pass) BadToken plain.bad_token,
-    (when_ok P (not free && is_beyond s c c.pass) Forbidden plain.forbidden,
-    (when_ok P (is_write c.method && c.path.folder) FolderWrite plain.folder_write,
-    (clash_ok P c.path (is_put c.method) (clash_in s.contents.docs c.path) plain.clash,
-    (when_ok P (not (is_put c.method) && not there) Absent plain.absent,
-    (when_ok P (not (meets c.if_match there version)) Unmet plain.unmet,
-    (when_ok P (is_write c.method && excludes c.if_none there version) Unmet plain.unmet,
-    (same,
-    tt)))))))))
+    first_ok P (early_steps s c) (
+      when_ok P (not free && shows_none c.pass) NoToken plain.no_token,
+      (
+        when_ok P (not free && shows_ungranted s c.pass) BadToken plain.bad_token,
+        (
+          when_ok P (not free && is_beyond s c c.pass) Forbidden plain.forbidden,
+          (
+            when_ok P (is_write c.method && c.path.folder) FolderWrite plain.folder_write,
+            (
+              clash_ok P c.path (is_put c.method) (clash_in s.contents.docs c.path) plain.clash,
+              (
+                when_ok P (not (is_put c.method) && not there) Absent plain.absent,
+                (
+                  when_ok P (not (meets c.if_match there version)) Unmet plain.unmet,
+                  (
+                    when_ok P (is_write c.method && excludes c.if_none there version) Unmet plain.unmet,
+                    (
+                      same,
+                      tt,
+                    ),
+                  ),
+                ),
+              ),
+            ),
+          ),
+        ),
+      ),
+    )
 
 limit_ok : (P : Reply → Bool) (s : Snapshot) (quota : ℕ) (c : Call) → OfPlain P → holds_of P (first_of (limit_steps s quota c)) ≡ true
 limit_ok P s quota c plain =
-    first_ok P (limit_steps s quota c)
-    (when_ok P (is_write c.method && nat_le max_len s.len) RecordsFull plain.records,
-    (when_ok P (is_put c.method && nat_lt quota (live_after s c)) (OverQuota (live_in s.contents.docs)) (plain.quota (live_in s.contents.docs)),
-    (full_ok P c.path (is_put c.method) (full_in s.contents.docs c.path) plain.full,
-    tt)))
+    first_ok P (limit_steps s quota c) (
+      when_ok P (is_write c.method && nat_le max_len s.len) RecordsFull plain.records,
+      (
+        when_ok P (is_put c.method && nat_lt quota (live_after s c)) (OverQuota (live_in s.contents.docs)) (plain.quota (live_in s.contents.docs)),
+        (
+          full_ok P c.path (is_put c.method) (full_in s.contents.docs c.path) plain.full,
+          tt,
+        ),
+      ),
+    )
 
 -- so it holds of the answer, if it does of the last step
 answer_ok : (P : Reply → Bool) (s : Snapshot) (quota : ℕ) (c : Call) → OfPlain P

@@ -74,7 +74,9 @@ fn an_ask_is_written_behind_what_is_there(rt: HostRuntime) -> Result<(), Fail> {
     let ask = ask_of(alloc, "get /a -")?;
     let mut out = Vec::from_slice(alloc, b"!")?;
     encode_request(alloc, &root, &token, &ask, &mut out)?;
-    assert_eq!(&rt; out.as_slice(),
-        b"!GET /a HTTP/1.1\r\nHost: h\r\nAuthorization: Bearer t\r\nConnection: close\r\n\r\n".as_slice());
+    assert_eq!(&rt;
+        out.as_slice(),
+        b"!GET /a HTTP/1.1\r\nHost: h\r\nAuthorization: Bearer t\r\nConnection: close\r\n\r\n".as_slice()
+    );
     Ok(())
 }
