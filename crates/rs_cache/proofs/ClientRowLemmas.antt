@@ -18,7 +18,7 @@ use Rattle.rs_cache.specs.Effects.{Edited, with_change, held_with, resolved_by, 
 use Rattle.rs_cache.specs.Places.{may_come, is_connect}
 use Rattle.rs_cache.specs.Journals.{after_events, AllCome, state_of}
 use Rattle.rs_cache.specs.EventReadings.{event_reading}
-use Rattle.rs_cache.specs.ClientRows.{events_read, events_in, reading_refusal, row_refusal, IsMadeOf, TakesEvent}
+use Rattle.rs_cache.specs.ClientRows.{events_read, events_in, reading_refusal, event_refusal, IsStateOf, TakesEvent}
 use Rattle.rs_cache.proofs.JournalLemmas.{state_of-split}
 use Rattle.rs_cache.proofs.LawfulLemmas.{may-turn}
 use Rattle.rs_cache.proofs.NotingLemmas.{after-rows}
@@ -27,11 +27,11 @@ all_read : (journal : List Event) → events_read (map (λ event. Ok (Some event
 all_read [] = refl
 all_read (e ∷ es) = ap (λ rest. e ∷ rest) (all_read es)
 
-pub made-none : IsMadeOf no_state []
+pub made-none : IsStateOf no_state []
 made-none = record { journal = []; spelled = refl; lawful = tt; left = refl }
 
 -- the state is what the rows' events leave
-state-made : (s : State) (rows : List (List ℕ)) → IsMadeOf s rows → state_of (events_in rows) ≡ s
+state-made : (s : State) (rows : List (List ℕ)) → IsStateOf s rows → state_of (events_in rows) ≡ s
 state-made s rows made = ap state_of (ap events_read made.spelled ∙ all_read made.journal) ∙ sym made.left
 
 one_more : (s : State) (xs : List Event) (e : Event) → AllCome s xs → may_come (after_events s xs) e ≡ true → AllCome s (xs ++ e ∷ [])
@@ -39,8 +39,8 @@ one_more s [] e all may = (may, tt)
 one_more s (x ∷ xs) e all may = (all.0, one_more (after_event x s) xs e all.1 may)
 
 -- a row whose event may come is one more
-pub made-more : (s : State) (rows : List (List ℕ)) (row : List ℕ) (e : Event) → IsMadeOf s rows → event_reading row ≡ Ok (Some e)
-    → may_come s e ≡ true → IsMadeOf (after_event e s) (rows ++ row ∷ [])
+pub made-more : (s : State) (rows : List (List ℕ)) (row : List ℕ) (e : Event) → IsStateOf s rows → event_reading row ≡ Ok (Some e)
+    → may_come s e ≡ true → IsStateOf (after_event e s) (rows ++ row ∷ [])
 made-more s rows row e made reads may = record {
   journal = made.journal ++ e ∷ [];
   spelled = map-append event_reading rows (row ∷ [])
@@ -52,31 +52,31 @@ made-more s rows row e made reads may = record {
 }
 
 -- what the row is refused for, by the state
-refusal_by : (s : State) (rows : List (List ℕ)) (row : List ℕ) → IsMadeOf s rows → row_refusal rows row ≡ reading_refusal s (event_reading row)
+refusal_by : (s : State) (rows : List (List ℕ)) (row : List ℕ) → IsStateOf s rows → event_refusal rows row ≡ reading_refusal s (event_reading row)
 refusal_by s rows row made = ap (λ t. reading_refusal t (event_reading row)) (state-made s rows made)
 
-pub refused-not : (s : State) (rows : List (List ℕ)) (row : List ℕ) (e : Event) → IsMadeOf s rows → event_reading row ≡ Ok (Some e)
-    → may_come s e ≡ true → row_refusal rows row ≡ None
+pub refused-not : (s : State) (rows : List (List ℕ)) (row : List ℕ) (e : Event) → IsStateOf s rows → event_reading row ≡ Ok (Some e)
+    → may_come s e ≡ true → event_refusal rows row ≡ None
 refused-not s rows row e made reads may = refusal_by s rows row made ∙ ap (reading_refusal s) reads ∙ cond-true (may_come s e) None (Some Misplaced) may
 
-pub refused-misplaced : (s : State) (rows : List (List ℕ)) (row : List ℕ) (e : Event) → IsMadeOf s rows → event_reading row ≡ Ok (Some e)
-    → may_come s e ≡ false → row_refusal rows row ≡ Some Misplaced
+pub refused-misplaced : (s : State) (rows : List (List ℕ)) (row : List ℕ) (e : Event) → IsStateOf s rows → event_reading row ≡ Ok (Some e)
+    → may_come s e ≡ false → event_refusal rows row ≡ Some Misplaced
 refused-misplaced s rows row e made reads may = refusal_by s rows row made ∙ ap (reading_refusal s) reads ∙ cond-false (may_come s e) None (Some Misplaced) may
 
-pub refused-nowhere : (s : State) (rows : List (List ℕ)) (row : List ℕ) → IsMadeOf s rows → event_reading row ≡ Ok None → row_refusal rows row ≡ Some Misplaced
+pub refused-nowhere : (s : State) (rows : List (List ℕ)) (row : List ℕ) → IsStateOf s rows → event_reading row ≡ Ok None → event_refusal rows row ≡ Some Misplaced
 refused-nowhere s rows row made reads = refusal_by s rows row made ∙ ap (reading_refusal s) reads
 
-pub refused-bad : (s : State) (rows : List (List ℕ)) (row : List ℕ) (place : ℕ) → IsMadeOf s rows → event_reading row ≡ Err (BadField place)
-    → row_refusal rows row ≡ Some (Bad place)
+pub refused-bad : (s : State) (rows : List (List ℕ)) (row : List ℕ) (place : ℕ) → IsStateOf s rows → event_reading row ≡ Err (BadField place)
+    → event_refusal rows row ≡ Some (Bad place)
 refused-bad s rows row place made reads = refusal_by s rows row made ∙ ap (reading_refusal s) reads
 
 -- ---- a row taken
 
 -- a row that spells an event, taken as the event
 pub taken-some : (s now : State) (rows : List (List ℕ)) (row : List ℕ) (e : Event) (result : Result (Unit {0}) TakeFault) → event_reading row ≡ Ok (Some e)
-    → TakesEvent s e now result → IsMadeOf s rows → TakesNext row_refusal IsMadeOf now result rows row
+    → TakesEvent s e now result → IsStateOf s rows → TakesNext event_refusal IsStateOf now result rows row
 taken-some s now rows row e (Ok done) reads taken made =
-    (refused-not s rows row e made reads taken.0, subst (λ t. IsMadeOf t (rows ++ row ∷ [])) (sym taken.1) (made-more s rows row e made reads taken.0))
+    (refused-not s rows row e made reads taken.0, subst (λ t. IsStateOf t (rows ++ row ∷ [])) (sym taken.1) (made-more s rows row e made reads taken.0))
 taken-some s now rows row e (Err (Refused (Bad place))) reads taken made = absurd taken
 taken-some s now rows row e (Err (Refused Misplaced)) reads taken made = refused-misplaced s rows row e made reads taken
 taken-some s now rows row e (Err NoMemoryToTake) reads taken made = tt
@@ -91,7 +91,7 @@ events-rows s (e ∷ es) =
     omega (arith, rest, here)
 
 -- as many as rows
-pub made-rows : (s : State) (rows : List (List ℕ)) → IsMadeOf s rows → s.rows ≡ length rows
+pub made-rows : (s : State) (rows : List (List ℕ)) → IsStateOf s rows → s.rows ≡ length rows
 made-rows s rows made =
     let count : (state_of made.journal).rows ≡ 0 + length made.journal = events-rows no_state made.journal in
     let Read : Event → Result (Option Event) RowFault = λ event. Ok (Some event) in
@@ -161,19 +161,19 @@ connected-all : (s : State) (es : List Event) → IsConnectedSince s → AllCome
 connected-all s [] since all = since
 connected-all s (e ∷ es) since all = connected-all (after_event e s) es (connected-step s e since all.0) all.1
 
-pub made-connected : (s : State) (rows : List (List ℕ)) → IsMadeOf s rows → is_some s.connection ≡ not (s.rows == 0)
+pub made-connected : (s : State) (rows : List (List ℕ)) → IsStateOf s rows → is_some s.connection ≡ not (s.rows == 0)
 made-connected s rows made = subst IsConnectedSince (sym made.left) (connected-all no_state made.journal refl made.lawful)
 
 -- ---- what was opened
 
 -- a client that was opened over rows has as many
-pub opened-len : {E : Type 0} (result : Result State E) (n : ℕ) → IfOk result (λ s. (rows : List (List ℕ)) × IsMadeOf s rows × (length rows ≡ n))
+pub opened-len : {E : Type 0} (result : Result State E) (n : ℕ) → IfOk result (λ s. (rows : List (List ℕ)) × IsStateOf s rows × (length rows ≡ n))
     → IfOk result (λ s. s.rows ≡ n)
 opened-len (Ok s) n it = made-rows s it.0 it.1 ∙ it.2
 opened-len (Err fault) n none = tt
 
 -- and is connected where there are any
-pub opened-connected : {E : Type 0} (result : Result State E) (n : ℕ) → IfOk result (λ s. (rows : List (List ℕ)) × IsMadeOf s rows × (length rows ≡ n))
+pub opened-connected : {E : Type 0} (result : Result State E) (n : ℕ) → IfOk result (λ s. (rows : List (List ℕ)) × IsStateOf s rows × (length rows ≡ n))
     → IfOk result (λ s. is_some s.connection ≡ not (s.rows == 0))
 opened-connected (Ok s) n it = made-connected s it.0 it.1
 opened-connected (Err fault) n none = tt

@@ -34,11 +34,11 @@ reading_refusal s (Err (BadField place)) = Some (Bad place)
 reading_refusal s (Err NoMemory) = None
 
 -- what a row is refused for behind others
-abbrev pub row_refusal : List (List ℕ) → List ℕ → Option Refusal
-row_refusal rows row = reading_refusal (state_of (events_in rows)) (event_reading row)
+abbrev pub event_refusal : List (List ℕ) → List ℕ → Option Refusal
+event_refusal rows row = reading_refusal (state_of (events_in rows)) (event_reading row)
 
 -- each row spells an event, these are a journal, and the state is the one that they leave
-pub record IsMadeOf (state : State) (rows : List (List ℕ)) : Type 0 where
+pub record IsStateOf (state : State) (rows : List (List ℕ)) : Type 0 where
   pub journal : List Event
   pub spelled : map event_reading rows ≡ map (λ event. Ok (Some event)) journal
   pub lawful : IsJournal journal

@@ -3,7 +3,7 @@
 ghost use Rattle.std.specs.Prelude.{◌≡◌, ◌==◌, ℕ, List, not, is_some, length, IfOk, IfSome};
 ghost use Rattle.rs_face.specs.Causes.{HasCause};
 ghost use Rattle.rs_row.specs.RowOpenings.{OpensKeptRows};
-ghost use Rattle.rs_cache.specs.ClientRows.{row_refusal, IsMadeOf, TakesEvent};
+ghost use Rattle.rs_cache.specs.ClientRows.{event_refusal, IsStateOf, TakesEvent};
 ghost use Rattle.rs_cache.specs.States.{no_state};
 
 use crate::client::Client;
@@ -15,11 +15,11 @@ use std::alloc::Global;
 use std::collections::BTreeMap;
 
 impl Replayed for Client {
-    ghost use Rattle.rs_cache.specs.ClientRows.{row_refusal, IsMadeOf};
+    ghost use Rattle.rs_cache.specs.ClientRows.{event_refusal, IsStateOf};
 
-    ghost refusal = { row_refusal };
+    ghost refusal = { event_refusal };
 
-    ghost made_of = { IsMadeOf };
+    ghost made_of = { IsStateOf };
 
     fn take_row(&mut self, row: &[u8]) -> Result<(), TakeFault> {
         match read_event(self.alloc, row) {
@@ -41,8 +41,8 @@ impl Client {
     /// `BadRow` is the first row that spells no event, `Unlawful` the first whose event may not come there, whichever
     /// comes first. `KeeperFailed` comes only where the keeper's count of faults rose. The rows are as before.
     pub fn open<K: Keeper>(alloc: Global, keeper: &mut K) -> Result<Client, OpenFault>
-        ensures opened { IfSome (K.rows keeper.old) (OpensKeptRows row_refusal IsMadeOf result) }
-        ensures made { IfOk result (λ client. (rows : List (List ℕ)) × IsMadeOf client rows × (length rows ≡ K.row_count keeper.new)) }
+        ensures opened { IfSome (K.rows keeper.old) (OpensKeptRows event_refusal IsStateOf result) }
+        ensures made { IfOk result (λ client. (rows : List (List ℕ)) × IsStateOf client rows × (length rows ≡ K.row_count keeper.new)) }
         ensures len { IfOk result (λ client. client.rows ≡ K.row_count keeper.new) }
         ensures connected { IfOk result (λ client. is_some client.connection ≡ not (client.rows == 0)) }
         ensures rows { K.rows keeper.new ≡ K.rows keeper.old }

@@ -20,7 +20,7 @@ use Rattle.rs_client.specs.declared.client_fault.ClientFault.{ClientFault}
 use Rattle.rs_client.specs.declared.client_fault.ClientFault.TheVariants as client
 use Rattle.rs_client.specs.Causes.{client_fault}
 use Rattle.rs_client.specs.Clients.{IsClient, IsUnopened}
-use Rattle.rs_client.specs.Showings.{ShowsOver, Shows}
+use Rattle.rs_client.specs.Showings.{ShowsOver, ShowsState}
 use Rattle.rs_client.specs.Additions.{Adds, IsRefused, AddsOver, AddsEvent}
 
 -- ---- what a call that notes an event was refused for
@@ -71,8 +71,8 @@ told_as fault (Err e) is = cc
 
 module _ {S : Type 0} (told : S → Option (List (List ℕ))) (faults : S → ℕ) (first mid : S) where
   -- a command that shows something of the client that was opened
-  pub shown : {A : Type 0} (answer : State → Option A) (s : State) (value : A) → answer s ≡ Some value → Shows Some (course told faults first mid) (Ok s)
-      → Shows answer (course told faults first mid) (Ok value)
+  pub shown : {A : Type 0} (answer : State → Option A) (s : State) (value : A) → answer s ≡ Some value → ShowsState Some (course told faults first mid) (Ok s)
+      → ShowsState answer (course told faults first mid) (Ok value)
   shown answer s value is shows = record {
     told = over (told first) shows.told;
     same = shows.same;
@@ -87,8 +87,8 @@ module _ {S : Type 0} (told : S → Option (List (List ℕ))) (faults : S → �
 
   -- there was no memory for what it shows
   pub unshown : {A : Type 0} (answer : State → Option A) (s : State) (result : Result A ClientFault) → result ≡ Err client.NoMemory
-      → Shows Some (course told faults first mid) (Ok s) → Shows answer (course told faults first mid) result
-  unshown answer s result is shows = subst (Shows answer (course told faults first mid)) (sym is) (record {
+      → ShowsState Some (course told faults first mid) (Ok s) → ShowsState answer (course told faults first mid) result
+  unshown answer s result is shows = subst (ShowsState answer (course told faults first mid)) (sym is) (record {
     told = over (told first);
     same = shows.same;
     later = shows.later;
@@ -130,7 +130,7 @@ module _ {S : Type 0} (told : S → Option (List (List ℕ))) (faults : S → �
       (why_not (refusal s) event s now (course told faults mid last) fault notes)
 
   -- an event that was added over a client that was opened
-  pub added : (refusal : State → Option CacheFault) (event : Event) (s now : State) → Shows Some (course told faults first mid) (Ok s)
+  pub added : (refusal : State → Option CacheFault) (event : Event) (s now : State) → ShowsState Some (course told faults first mid) (Ok s)
       → Notes (refusal s) event s now (course told faults mid last) (Ok tt) → faults mid ≤ faults last
       → AddsEvent refusal event (course told faults first last) (Ok tt)
   added refusal event s now shows notes later = record {
@@ -147,7 +147,7 @@ module _ {S : Type 0} (told : S → Option (List (List ℕ))) (faults : S → �
 
   -- an event that was refused over a client that was opened
   pub refused : (refusal : State → Option CacheFault) (event : Event) (s now : State) (fault : CacheFault) (result : Result (Unit {0}) ClientFault)
-      → result ≡ Err (client_fault fault) → Shows Some (course told faults first mid) (Ok s)
+      → result ≡ Err (client_fault fault) → ShowsState Some (course told faults first mid) (Ok s)
       → Notes (refusal s) event s now (course told faults mid last) (Err fault) → faults mid ≤ faults last
       → AddsEvent refusal event (course told faults first last) result
   refused refusal event s now fault result is shows notes later = subst (AddsEvent refusal event (course told faults first last)) (sym is) (record {

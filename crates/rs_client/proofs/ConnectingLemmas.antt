@@ -16,7 +16,7 @@ use Rattle.rs_cache.specs.declared.cache_fault.CacheFault.TheVariants as cache
 use Rattle.rs_cache.specs.declared.event.Event.{Event}
 use Rattle.rs_cache.specs.declared.event.Event.TheVariants.{Connect}
 use Rattle.rs_cache.specs.States.{State, no_state}
-use Rattle.rs_cache.specs.ClientRows.{row_refusal, IsMadeOf}
+use Rattle.rs_cache.specs.ClientRows.{event_refusal, IsStateOf}
 use Rattle.rs_cache.specs.EventRows.{event_row}
 use Rattle.rs_cache.specs.Noting.{NotNoted, Notes}
 use Rattle.rs_cache.specs.Refusals.{connect_refusal, full_refusal}
@@ -62,7 +62,7 @@ free_by s false is refusal = rows_none s.rows is
 
 module _ {S : Type 0} (told : S → Option (List (List ℕ))) (faults : S → ℕ) (first mid last : S) (root : Root) (token : List ℕ) (scopes : List Scope) where
   -- the client of no rows is connected
-  pub begun : (s now : State) → IfSome (told first) (OpensKeptRows row_refusal IsMadeOf (Ok s)) → told mid ≡ told first → faults first ≤ faults mid
+  pub begun : (s now : State) → IfSome (told first) (OpensKeptRows event_refusal IsStateOf (Ok s)) → told mid ≡ told first → faults first ≤ faults mid
       → Notes (connect_refusal s) (Connect root token scopes) s now (course told faults mid last) (Ok tt) → faults mid ≤ faults last
       → Connects root token scopes (course told faults first last) (Ok tt)
   begun s now opened same before notes later = record {
@@ -72,7 +72,7 @@ module _ {S : Type 0} (told : S → Option (List (List ℕ))) (faults : S → �
     cause = λ is. absurd (cc);
   }
     where
-      over : (o : Option (List (List ℕ))) → told first ≡ o → IfSome o (OpensKeptRows row_refusal IsMadeOf (Ok s))
+      over : (o : Option (List (List ℕ))) → told first ≡ o → IfSome o (OpensKeptRows event_refusal IsStateOf (Ok s))
           → IfSome o (ConnectsOver (Connect root token scopes) (course told faults first last) (Ok tt))
       over None is given = tt
       over (Some rows) is given =
@@ -85,7 +85,7 @@ module _ {S : Type 0} (told : S → Option (List (List ℕ))) (faults : S → �
 
   -- the client is connected already, or the keeper failed, or memory ran out
   pub unbegun : (s now : State) (fault : CacheFault) (result : Result (Unit {0}) ClientFault) → result ≡ Err (client_fault fault)
-      → IfSome (told first) (OpensKeptRows row_refusal IsMadeOf (Ok s)) → told mid ≡ told first → faults first ≤ faults mid
+      → IfSome (told first) (OpensKeptRows event_refusal IsStateOf (Ok s)) → told mid ≡ told first → faults first ≤ faults mid
       → is_some s.connection ≡ not (s.rows == 0)
       → Notes (connect_refusal s) (Connect root token scopes) s now (course told faults mid last) (Err fault) → faults mid ≤ faults last
       → Connects root token scopes (course told faults first last) result
@@ -101,7 +101,7 @@ module _ {S : Type 0} (told : S → Option (List (List ℕ))) (faults : S → �
             (failed_by refusal event s now it fault notes (err_is (client_fault fault) client.KeeperFailed (Err (client_fault fault)) refl failed));
       })
     where
-      over : (o : Option (List (List ℕ))) → IfSome o (OpensKeptRows row_refusal IsMadeOf (Ok s))
+      over : (o : Option (List (List ℕ))) → IfSome o (OpensKeptRows event_refusal IsStateOf (Ok s))
           → IfSome o (ConnectsOver (Connect root token scopes) (course told faults first last) (Err (client_fault fault)))
       over None given = tt
       over (Some rows) given =

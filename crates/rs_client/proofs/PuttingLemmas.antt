@@ -14,7 +14,7 @@ use Rattle.rs_client.specs.declared.client_fault.ClientFault.{ClientFault}
 use Rattle.rs_client.specs.declared.client_fault.ClientFault.TheVariants.{BadRow, Unlawful, Connected, NotConnected, SourceFailed, TooLong, OutOfScope, Clash, NotThere, NoConflict, JournalFull, KeeperFailed, NoMemory}
 use Rattle.rs_client.specs.Causes.{client_fault}
 use Rattle.rs_client.specs.Clients.{IsClient, IsUnopened, IsOpening}
-use Rattle.rs_client.specs.Showings.{ShowsOver, Shows}
+use Rattle.rs_client.specs.Showings.{ShowsOver, ShowsState}
 use Rattle.rs_client.specs.Additions.{IsRefused}
 use Rattle.rs_client.specs.Putting.{IsRead, IsRefusedEdit, PutsOver, SourceEnds, Puts}
 use Rattle.rs_client.specs.Reading.{ReadsBy, ReadsBody}
@@ -114,7 +114,7 @@ refused_ends source cache.KeeperFailed = tt
 refused_ends source cache.NoMemory = tt
 
 module _ {S T : Type 0} (told : S → Option (List (List ℕ))) (faults : S → ℕ) (first mid last : S) (left : T → Option (List ℕ)) (lost : T → ℕ) (from until : T) (path : Path) (kind : List ℕ) where
-  pub unopened : (fault : ClientFault) (result : Result (Unit {0}) ClientFault) → result ≡ Err fault → Shows {A = State} Some (course told faults first mid) (Err fault) → IsOpening fault
+  pub unopened : (fault : ClientFault) (result : Result (Unit {0}) ClientFault) → result ≡ Err fault → ShowsState {A = State} Some (course told faults first mid) (Err fault) → IsOpening fault
       → Puts path kind (course told faults first mid) (course left lost from from) result
   unopened fault result is shows opening = subst (Puts path kind (course told faults first mid) (course left lost from from)) (sym is) (record {
     told = over (told first) shows.told;
@@ -130,7 +130,7 @@ module _ {S T : Type 0} (told : S → Option (List (List ℕ))) (faults : S → 
       over None given = tt
       over (Some rows) given = unopened_over path kind (course told faults first mid) (course left lost from from) fault rows opening given
 
-  pub unread : (s : State) (fault : ClientFault) (result : Result (Unit {0}) ClientFault) → result ≡ Err fault → Shows Some (course told faults first mid) (Ok s)
+  pub unread : (s : State) (fault : ClientFault) (result : Result (Unit {0}) ClientFault) → result ≡ Err fault → ShowsState Some (course told faults first mid) (Ok s)
       → ReadsBody (course left lost from until) (Err fault) → Puts path kind (course told faults first mid) (course left lost from until) result
   unread s fault result is shows reads = subst (Puts path kind (course told faults first mid) (course left lost from until)) (sym is) (record {
     told = over (told first) shows.told;
@@ -147,7 +147,7 @@ module _ {S T : Type 0} (told : S → Option (List (List ℕ))) (faults : S → 
       over (Some rows) given = unread_over path kind (course told faults first mid) (course left lost from until) fault given.0 rows given.1 reads.reads
 
   pub unput : (s now : State) (body : List ℕ) (fault : CacheFault) (result : Result (Unit {0}) ClientFault) → result ≡ Err (client_fault fault)
-      → Shows Some (course told faults first mid) (Ok s) → ReadsBody (course left lost from until) (Ok body)
+      → ShowsState Some (course told faults first mid) (Ok s) → ReadsBody (course left lost from until) (Ok body)
       → Notes (edit_refusal s path) (Edit path (Put kind body)) s now (course told faults mid last) (Err fault) → faults mid ≤ faults last
       → Puts path kind (course told faults first last) (course left lost from until) result
   unput s now body fault result is shows reads notes later =
@@ -172,7 +172,7 @@ module _ {S T : Type 0} (told : S → Option (List (List ℕ))) (faults : S → 
           (⊎_elim (λ refused. inl (record { body = body; read = reads.reads; refused = refused })) (λ other. inr other)
           (refuses told faults first mid last (λ t. edit_refusal t path) (Edit path (Put kind body)) s now fault rows given shows.later notes))
 
-  pub put_in : (s now : State) (body : List ℕ) → Shows Some (course told faults first mid) (Ok s) → ReadsBody (course left lost from until) (Ok body)
+  pub put_in : (s now : State) (body : List ℕ) → ShowsState Some (course told faults first mid) (Ok s) → ReadsBody (course left lost from until) (Ok body)
       → Notes (edit_refusal s path) (Edit path (Put kind body)) s now (course told faults mid last) (Ok tt) → faults mid ≤ faults last
       → Puts path kind (course told faults first last) (course left lost from until) (Ok tt)
   put_in s now body shows reads notes later = record {

@@ -8,7 +8,7 @@ use Rattle.rs_client.specs.declared.client_fault.ClientFault.TheVariants.{BadRow
 use Rattle.rs_client.specs.declared.source_body.Filled.{Filled}
 use Rattle.rs_client.specs.declared.source_body.Filled.TheVariants.{More, End}
 use Rattle.rs_client.specs.Putting.{IsRead}
-use Rattle.rs_client.specs.Reading.{IsLonger, IsEnded, IsTooMuch, FillsBy, Fills, HasRead, ReadsBy, ReadsBody}
+use Rattle.rs_client.specs.Reading.{IsLonger, IsEnded, IsTooMuch, FillsBy, FillsBody, HasRead, ReadsBy, ReadsBody}
 
 pub end_unless : (f : Filled) → (f ≡ More → ⊥) → f ≡ End
 end_unless More not = absurd (not refl)
@@ -36,7 +36,7 @@ module _ {S : Type 0} (told : S → Option (List ℕ)) (faults : S → ℕ) (fir
   pub reads_none : HasRead [] (course told faults first first)
   reads_none = record { consumed = Consumes-nil (told first); short = omega arith; later = omega arith }
 
-  pub reads_more : (body new : List ℕ) → HasRead body (course told faults first mid) → Fills body new (course told faults mid last) (Ok More)
+  pub reads_more : (body new : List ℕ) → HasRead body (course told faults first mid) → FillsBody body new (course told faults mid last) (Ok More)
       → HasRead new (course told faults first last)
   reads_more body new read more =
       let before = read.later in
@@ -48,7 +48,7 @@ module _ {S : Type 0} (told : S → Option (List ℕ)) (faults : S → ℕ) (fir
         later = omega (arith, before, later);
       }
 
-  pub reads_whole : (body new : List ℕ) → HasRead body (course told faults first mid) → Fills body new (course told faults mid last) (Ok End)
+  pub reads_whole : (body new : List ℕ) → HasRead body (course told faults first mid) → FillsBody body new (course told faults mid last) (Ok End)
       → ReadsBody (course told faults first last) (Ok new)
   reads_whole body new read ended =
       let before = read.later in
@@ -85,7 +85,7 @@ module _ {S : Type 0} (told : S → Option (List ℕ)) (faults : S → ℕ) (fir
   reads_fault body new KeeperFailed read fills = absurd fills
 
   pub reads_not : (body new : List ℕ) (fault : ClientFault) (result : Result (List ℕ) ClientFault) → result ≡ Err fault → HasRead body (course told faults first mid)
-      → Fills body new (course told faults mid last) (Err fault) → ReadsBody (course told faults first last) result
+      → FillsBody body new (course told faults mid last) (Err fault) → ReadsBody (course told faults first last) result
   reads_not body new fault result is read fills =
       let before = read.later in
       let later = fills.later in

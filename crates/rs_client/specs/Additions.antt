@@ -6,7 +6,7 @@ use Rattle.rs_cache.specs.declared.event.Event.{Event}
 use Rattle.rs_cache.specs.States.{State}
 use Rattle.rs_cache.specs.Effects.{after_event}
 use Rattle.rs_cache.specs.EventRows.{event_row}
-use Rattle.rs_cache.specs.ClientRows.{IsMadeOf}
+use Rattle.rs_cache.specs.ClientRows.{IsStateOf}
 use Rattle.rs_client.specs.declared.client_fault.ClientFault.{ClientFault}
 use Rattle.rs_client.specs.declared.client_fault.ClientFault.TheVariants.{KeeperFailed}
 use Rattle.rs_client.specs.Causes.{client_fault}
@@ -18,7 +18,7 @@ pub record Adds (refusal : State → Option CacheFault) (event : Event) (it : Co
   pub client : IsClient state rows
   pub allowed : refusal state ≡ None
   pub row : it.new ≡ Some (rows ++ event_row event ∷ [])
-  pub made : IsMadeOf (after_event event state) (rows ++ event_row event ∷ [])
+  pub made : IsStateOf (after_event event state) (rows ++ event_row event ∷ [])
 
 -- the client of the rows refuses the call for this, the first cause that applies
 pub record IsRefused (refusal : State → Option CacheFault) (fault : ClientFault) (rows : List (List ℕ)) : Type 0 where

@@ -8,7 +8,7 @@ use Rattle.rs_cache.specs.declared.event.Event.TheVariants.{Connect}
 use Rattle.rs_cache.specs.States.{State, no_state}
 use Rattle.rs_cache.specs.Effects.{after_event}
 use Rattle.rs_cache.specs.EventRows.{event_row}
-use Rattle.rs_cache.specs.ClientRows.{IsMadeOf}
+use Rattle.rs_cache.specs.ClientRows.{IsStateOf}
 use Rattle.rs_client.specs.declared.client_fault.ClientFault.{ClientFault}
 use Rattle.rs_client.specs.declared.client_fault.ClientFault.TheVariants.{Connected, NotConnected, KeeperFailed}
 use Rattle.rs_client.specs.Clients.{IsClient, IsUnopened}
@@ -17,7 +17,7 @@ use Rattle.rs_client.specs.Clients.{IsClient, IsUnopened}
 pub record Begins (event : Event) (it : Course (List (List ℕ))) (rows : List (List ℕ)) : Type 0 where
   pub empty : rows ≡ []
   pub row : it.new ≡ Some (event_row event ∷ [])
-  pub made : IsMadeOf (after_event event no_state) (event_row event ∷ [])
+  pub made : IsStateOf (after_event event no_state) (event_row event ∷ [])
 
 -- over these rows: they make a client already where they are refused for that
 abbrev pub ConnectsOver : Event → Course (List (List ℕ)) → Result (Unit {0}) ClientFault → List (List ℕ) → Type 0

@@ -40,7 +40,7 @@ FillsBy old new source (Err NoMemory) = Unit {0}
 FillsBy old new source (Err fault) = ⊥
 
 -- one read into a body
-pub record Fills (old new : List ℕ) (source : Course (List ℕ)) (result : Result Filled ClientFault) : Type 0 where
+pub record FillsBody (old new : List ℕ) (source : Course (List ℕ)) (result : Result Filled ClientFault) : Type 0 where
   pub fills : FillsBy old new source result
   pub later : IsLater source
 

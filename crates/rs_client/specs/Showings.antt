@@ -13,7 +13,7 @@ ShowsOver answer it (Err NotThere) rows = (s : State) × IsClient s rows × (ans
 ShowsOver answer it (Err fault) rows = IsUnopened fault it rows
 
 -- over a keeper, whose rows are as before
-pub record Shows {A : Type 0} (answer : State → Option A) (it : Course (List (List ℕ))) (result : Result A ClientFault) : Type 0 where
+pub record ShowsState {A : Type 0} (answer : State → Option A) (it : Course (List (List ℕ))) (result : Result A ClientFault) : Type 0 where
   pub told : IfSome it.old (ShowsOver answer it result)
   pub same : IsSame it
   pub later : IsLater it

@@ -3,7 +3,7 @@
 ghost use Rattle.std.specs.Prelude.{◌≡◌, true, Some, is_some, IfOk, IfErr};
 ghost use Rattle.rs_face.specs.Courses.{course};
 ghost use Rattle.rs_client.specs.Clients.{IsOpening};
-ghost use Rattle.rs_client.specs.Showings.{Shows};
+ghost use Rattle.rs_client.specs.Showings.{ShowsState};
 
 use crate::client_fault::ClientFault;
 use rs_cache::Client;
@@ -15,7 +15,7 @@ pub(crate) fn open_connected<K: Keeper>(
     alloc: Global,
     keeper: &mut K,
 ) -> Result<Client, ClientFault>
-    ensures shows { Shows Some (course K.rows K.faults keeper.old keeper.new) result }
+    ensures shows { ShowsState Some (course K.rows K.faults keeper.old keeper.new) result }
     ensures connected { IfOk result (λ client. is_some client.connection ≡ true) }
     ensures len { IfOk result (λ client. K.row_count keeper.new ≡ client.rows) }
     ensures why { IfErr result IsOpening }

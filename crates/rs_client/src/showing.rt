@@ -3,7 +3,7 @@
 ghost use Rattle.std.specs.Prelude.{◌≡◌, true};
 ghost use Rattle.rs_face.specs.Courses.{course};
 ghost use Rattle.rs_client.specs.Answers.{shown_document, shown_listing, shown_summary, shown_conflicts};
-ghost use Rattle.rs_client.specs.Showings.{Shows};
+ghost use Rattle.rs_client.specs.Showings.{ShowsState};
 
 use crate::client_fault::ClientFault;
 use crate::opening::open_connected;
@@ -17,7 +17,7 @@ use std::alloc::Global;
 /// The first that applies is answered: the first wrong row; `NotConnected`; `NotThere`. `KeeperFailed` comes only where
 /// the keeper's count of faults rose. The rows are as before.
 pub fn document<K: Keeper>(alloc: Global, keeper: &mut K, path: &Path) -> Result<Bytes, ClientFault>
-    ensures shows { Shows (shown_document path.now) (course K.rows K.faults keeper.old keeper.new) result }
+    ensures shows { ShowsState (shown_document path.now) (course K.rows K.faults keeper.old keeper.new) result }
 {
     let client = open_connected(alloc, keeper)?;
     match client.view(path) {
@@ -39,7 +39,7 @@ pub fn listing<K: Keeper>(
     folder: &Path,
 ) -> Result<Bytes, ClientFault>
     requires folder { folder.now.folder ≡ true }
-    ensures shows { Shows (shown_listing folder.now) (course K.rows K.faults keeper.old keeper.new) result }
+    ensures shows { ShowsState (shown_listing folder.now) (course K.rows K.faults keeper.old keeper.new) result }
 {
     let client = open_connected(alloc, keeper)?;
     let children = client.list(folder)?;
@@ -52,7 +52,7 @@ pub fn listing<K: Keeper>(
 /// The first that applies is answered: the first wrong row; `NotConnected`. `KeeperFailed` comes only where the keeper's
 /// count of faults rose. The rows are as before.
 pub fn summary<K: Keeper>(alloc: Global, keeper: &mut K) -> Result<Bytes, ClientFault>
-    ensures shows { Shows shown_summary (course K.rows K.faults keeper.old keeper.new) result }
+    ensures shows { ShowsState shown_summary (course K.rows K.faults keeper.old keeper.new) result }
 {
     let client = open_connected(alloc, keeper)?;
     let text = summary_text(alloc, client.root(), client.summary())?;
@@ -64,7 +64,7 @@ pub fn summary<K: Keeper>(alloc: Global, keeper: &mut K) -> Result<Bytes, Client
 /// The first that applies is answered: the first wrong row; `NotConnected`. `KeeperFailed` comes only where the keeper's
 /// count of faults rose. The rows are as before.
 pub fn conflicts<K: Keeper>(alloc: Global, keeper: &mut K) -> Result<Bytes, ClientFault>
-    ensures shows { Shows shown_conflicts (course K.rows K.faults keeper.old keeper.new) result }
+    ensures shows { ShowsState shown_conflicts (course K.rows K.faults keeper.old keeper.new) result }
 {
     let client = open_connected(alloc, keeper)?;
     let text = conflicts_text(alloc, client.conflicts())?;

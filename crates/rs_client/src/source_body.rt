@@ -2,7 +2,7 @@
 
 ghost use Rattle.std.specs.Prelude.{◌≡◌, ◌≤◌, ◌++◌, length, OnOk};
 ghost use Rattle.rs_face.specs.Courses.{course};
-ghost use Rattle.rs_client.specs.Reading.{Fills, ReadsBody};
+ghost use Rattle.rs_client.specs.Reading.{FillsBody, ReadsBody};
 
 use crate::client_fault::ClientFault;
 use rs_face::{Source, SourceFault};
@@ -35,7 +35,7 @@ pub(crate) fn read_body<S: Source>(alloc: Global, source: &mut S) -> Result<Byte
 // Reads once.
 fn fill<S: Source>(body: &mut Vec<u8>, source: &mut S) -> Result<Filled, ClientFault>
     requires short { length body.old.items ≤ 67108864 }
-    ensures fills { Fills body.old.items body.new.items (course S.left S.faults source.old source.new) result }
+    ensures fills { FillsBody body.old.items body.new.items (course S.left S.faults source.old source.new) result }
 {
     let mut room = [0; READ_SIZE];
     match source.read(&mut room) {
