@@ -3,8 +3,10 @@
 ghost use Rattle.std.specs.Prelude.{◌≡◌, true};
 ghost use Rattle.rs_path.specs.Users.{is_user};
 
-use rs_path::NoMemory;
+use rs_cache::Resolve;
+use rs_path::{Kind, NoMemory, Path};
 use rs_scope::{Scopes, Token};
+use rs_talk::{Bearer, Root};
 
 /// Whom `pipe` serves, where, and which token with which scopes.
 #[derive(Debug, Drop)]
@@ -35,6 +37,26 @@ pub enum Command<'a> {
     Grant { scopes: Scopes },
     /// `revoke TOKEN`: takes the token's scopes away.
     Revoke { token: Token },
+    /// `connect ROOT TOKEN SCOPES`: connects the client of an empty journal to the account, and prints `connected`.
+    Connect {
+        root: Root,
+        token: Bearer,
+        scopes: Scopes,
+    },
+    /// `put PATH TYPE`: the source, up to its end, is the document from now on. Prints `put`.
+    Put { path: Path, kind: Kind },
+    /// `get PATH`: prints the body of the document, and nothing else.
+    Get { path: Path },
+    /// `rm PATH`: there is no such document from now on. Prints `removed`.
+    Remove { path: Path },
+    /// `ls FOLDER`: prints the names in the folder, a line each, folders with `/`.
+    List { folder: Path },
+    /// `status`: prints the root, and counts of documents, changes that wait, held ones, and conflicts.
+    Status,
+    /// `conflicts`: prints a line for each conflict.
+    Conflicts,
+    /// `resolve N keep` and `resolve N drop`: the change of a conflict waits again, or is given up. Prints `resolved`.
+    Resolve { n: u64, how: Resolve },
     /// `--help`: prints the forms of the words.
     Help,
     /// `--version`: prints the program's version.
@@ -51,6 +73,14 @@ impl Command<'_> {
     {
         match self {
             Command::Pipe { .. } | Command::Grant { .. } | Command::Revoke { .. } => RowsFile::User,
+            Command::Connect { .. }
+            | Command::Put { .. }
+            | Command::Get { .. }
+            | Command::Remove { .. }
+            | Command::List { .. }
+            | Command::Status
+            | Command::Conflicts
+            | Command::Resolve { .. } => RowsFile::Journal,
             Command::Help | Command::Version => RowsFile::None,
         }
     }
@@ -63,6 +93,8 @@ pub enum RowsFile {
     None,
     /// The rows of a user.
     User,
+    /// The rows of a client's journal.
+    Journal,
 }
 
 /// Why words are no command.
@@ -71,6 +103,8 @@ pub enum WordFault {
     /// The index, counted from 0, of the first word with which no form goes on; the number of words where they begin a
     /// form and none ends there.
     Word { index: u64 },
+    /// The word behind `connect` is an `https` address, which isn't served.
+    Https,
     /// Memory ran out.
     NoMemory,
 }

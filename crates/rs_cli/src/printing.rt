@@ -8,6 +8,7 @@ ghost use Rattle.rs_cli.specs.Grants.{Prints, line_of};
 use crate::causes::note_of_printing;
 use crate::note::Note;
 use itoa::Buffer;
+use rs_client::ClientFault;
 use rs_face::{Sink, SinkFault, write_all};
 
 /// Prints the text and a line end, and hands them on. The note is `Empty`, or says why not; then a front of them was written.
@@ -15,6 +16,13 @@ pub fn print_line<W: Sink>(sink: &mut W, text: &[u8]) -> Note
     ensures prints { Prints (course W.written W.faults sink.old sink.new) (line_of text.now) result }
 {
     note_of_printing(write_line(sink, text))
+}
+
+/// Prints the text, and hands it on. The note is as that of [`print_line`].
+pub fn print_text<W: Sink>(sink: &mut W, text: &[u8]) -> Note
+    ensures prints { Prints (course W.written W.faults sink.old sink.new) text.now result }
+{
+    note_of_printing(write_text(sink, text))
 }
 
 /// Prints the text, the number in decimal and a line end, and hands them on. The note is as that of [`print_line`].
@@ -33,6 +41,14 @@ fn write_count<W: Sink>(sink: &mut W, text: &[u8], count: u64) -> Result<(), Sin
     write_line(sink, Buffer::new().format(count).as_bytes())
 }
 
+fn write_text<W: Sink>(sink: &mut W, text: &[u8]) -> Result<(), SinkFault>
+    ensures writes { Writes (course W.written W.faults sink.old sink.new) text.now result }
+    ensures cause { HasCause (W.faults sink.old) (W.faults sink.new) SinkFault.Failed result }
+{
+    write_all(sink, text)?;
+    sink.flush()
+}
+
 fn write_line<W: Sink>(sink: &mut W, text: &[u8]) -> Result<(), SinkFault>
     ensures writes { Writes (course W.written W.faults sink.old sink.new) (line_of text.now) result }
     ensures cause { HasCause (W.faults sink.old) (W.faults sink.new) SinkFault.Failed result }
@@ -40,4 +56,20 @@ fn write_line<W: Sink>(sink: &mut W, text: &[u8]) -> Result<(), SinkFault>
     write_all(sink, text)?;
     write_all(sink, b"\n")?;
     sink.flush()
+}
+
+/// Prints the word of a command that was done, or says why it wasn't.
+pub fn print_done<W: Sink>(sink: &mut W, done: Result<(), ClientFault>, word: &[u8]) -> Note {
+    match done {
+        Ok(()) => print_line(sink, word),
+        Err(fault) => Note::from(fault),
+    }
+}
+
+/// Prints the text that a command shows, or says why there is none.
+pub fn print_shown<W: Sink>(sink: &mut W, shown: Result<Vec<u8>, ClientFault>) -> Note {
+    match shown {
+        Ok(text) => print_text(sink, text.as_slice()),
+        Err(fault) => Note::from(fault),
+    }
 }

@@ -11,11 +11,13 @@ ghost use Rattle.rs_cli.specs.Commands.{AsksFor, FindsAmong, FindsForm, ReadsCom
 ghost use Rattle.rs_config.specs.Secrets.{secret_reading};
 
 use crate::command::{Command, Serving, WordFault};
-use crate::forms::{Form, Place, forms};
+use crate::forms::{Form, Place, forms, read_how};
 use crate::number::read_number;
 use rs_config::read_secret;
-use rs_path::NoMemory;
+use rs_cache::Resolve;
+use rs_path::{Kind, NoMemory, Path};
 use rs_scope::{Scopes, Token};
+use rs_talk::{Bearer, Root, RootFault};
 use std::alloc::Global;
 
 /// The quota where none is given, in bytes.
@@ -30,8 +32,11 @@ const DEFAULT_BASE: &str = "http://localhost";
 pub fn read_command<'a>(alloc: Global, words: &'a [String]) -> Result<Command<'a>, WordFault>
     ensures read { ReadsCommand result (map string_bytes words.now) }
 {
-    let form = find_form(alloc, words)?;
-    Ok(command_of(alloc, form, words)?)
+    match find_form(alloc, words) {
+        Ok(form) => Ok(command_of(alloc, form, words)?),
+        Err(WordFault::Word { index: 1 }) if names_https(alloc, words)? => Err(WordFault::Https),
+        Err(fault) => Err(fault),
+    }
 }
 
 // ---- the form of the words
@@ -112,6 +117,18 @@ fn count_in(alloc: Global, places: &[Place], words: &[String]) -> Result<usize, 
     }
 }
 
+// The words are `connect` and an `https` address, and maybe others.
+fn names_https(alloc: Global, words: &[String]) -> Result<bool, NoMemory> {
+    if word_at(words, 0) != "connect" {
+        return Ok(false);
+    }
+    match Root::read(alloc, word_at(words, 1).as_bytes()) {
+        Err(RootFault::Https) => Ok(true),
+        Err(RootFault::NoMemory) => Err(NoMemory),
+        Ok(_) | Err(RootFault::BadUrl) => Ok(false),
+    }
+}
+
 // ---- the command of the words
 
 // The command that words in the form ask for.
@@ -144,6 +161,40 @@ fn command_of<'a>(alloc: Global, form: Form, words: &'a [String]) -> Result<Comm
         Form::Revoke => {
             let token = token_at(words, 1);
             Ok(Command::Revoke { token })
+        }
+        Form::Connect => {
+            let root = root_at(alloc, words, 1)?;
+            let token = bearer_at(alloc, words, 2)?;
+            let scopes = scopes_at(alloc, words, 3)?;
+            Ok(Command::Connect {
+                root,
+                token,
+                scopes,
+            })
+        }
+        Form::Put => {
+            let path = path_at(alloc, words, 1)?;
+            let kind = kind_at(alloc, words, 2)?;
+            Ok(Command::Put { path, kind })
+        }
+        Form::Get => {
+            let path = path_at(alloc, words, 1)?;
+            Ok(Command::Get { path })
+        }
+        Form::Remove => {
+            let path = path_at(alloc, words, 1)?;
+            Ok(Command::Remove { path })
+        }
+        Form::List => {
+            let folder = path_at(alloc, words, 1)?;
+            Ok(Command::List { folder })
+        }
+        Form::Status => Ok(Command::Status),
+        Form::Conflicts => Ok(Command::Conflicts),
+        Form::Resolve => {
+            let n = number_at(words, 1);
+            let how = how_at(words, 2);
+            Ok(Command::Resolve { n, how })
         }
         Form::Help => Ok(Command::Help),
         Form::Version => Ok(Command::Version),
@@ -234,4 +285,37 @@ fn scopes_at(alloc: Global, words: &[String], index: usize) -> Result<Scopes, No
         Ok(scopes) => Ok(scopes),
         Err(_) => Err(NoMemory),
     }
+}
+
+// The root of a word that names one, so that nothing but memory can be wanting.
+fn root_at(alloc: Global, words: &[String], index: usize) -> Result<Root, NoMemory> {
+    match Root::read(alloc, word_at(words, index).as_bytes()) {
+        Ok(root) => Ok(root),
+        Err(_) => Err(NoMemory),
+    }
+}
+
+fn bearer_at(alloc: Global, words: &[String], index: usize) -> Result<Bearer, NoMemory> {
+    match Bearer::read(alloc, word_at(words, index).as_bytes())? {
+        Some(bearer) => Ok(bearer),
+        None => Err(NoMemory),
+    }
+}
+
+fn path_at(alloc: Global, words: &[String], index: usize) -> Result<Path, NoMemory> {
+    match Path::read(alloc, word_at(words, index).as_bytes()) {
+        Ok(path) => Ok(path),
+        Err(_) => Err(NoMemory),
+    }
+}
+
+fn kind_at(alloc: Global, words: &[String], index: usize) -> Result<Kind, NoMemory> {
+    match Kind::read(alloc, word_at(words, index).as_bytes())? {
+        Some(kind) => Ok(kind),
+        None => Err(NoMemory),
+    }
+}
+
+fn how_at(words: &[String], index: usize) -> Resolve {
+    read_how(word_at(words, index)).unwrap()
 }

@@ -9,11 +9,12 @@ ghost use Rattle.rs_cli.specs.Runs.{Runs, Does};
 use crate::command::{Command, RowsFile, WordFault};
 use crate::granting::{grant, revoke};
 use crate::note::Note;
-use crate::printing::print_line;
+use crate::printing::{print_done, print_line, print_shown, print_text};
 use crate::serving::pipe;
 use crate::status::Status;
 use crate::texts::{help_text, version_text};
 use rs_chain::ChainTree;
+use rs_client::{conflicts, connect, document, listing, put, remove, resolve, summary};
 use rs_face::{Entropy, Keeper, Sink, Source};
 use std::alloc::Global;
 
@@ -102,6 +103,30 @@ fn run_command<S: Source, W: Sink, K: Keeper, E: Entropy>(
             grant::<ChainTree, K, E, W>(alloc, scopes, keeper, entropy, sink)
         }
         Command::Revoke { token } => revoke::<ChainTree, K, W>(alloc, token, keeper, sink),
+        Command::Connect {
+            root,
+            token,
+            scopes,
+        } => print_done(sink, connect(alloc, keeper, &root, &token, &scopes), b"connected"),
+        Command::Put { path, kind } => {
+            let done = put(alloc, keeper, source, &path, &kind);
+            print_done(sink, done, b"put")
+        }
+        Command::Get { path } => match document(alloc, keeper, &path) {
+            Ok(body) => print_text(sink, body.as_slice()),
+            Err(fault) => Note::from(fault),
+        },
+        Command::Remove { path } => {
+            let done = remove(alloc, keeper, &path);
+            print_done(sink, done, b"removed")
+        }
+        Command::List { folder } => print_shown(sink, listing(alloc, keeper, &folder)),
+        Command::Status => print_shown(sink, summary(alloc, keeper)),
+        Command::Conflicts => print_shown(sink, conflicts(alloc, keeper)),
+        Command::Resolve { n, how } => {
+            let done = resolve(alloc, keeper, n, how);
+            print_done(sink, done, b"resolved")
+        }
         Command::Help => print_line(sink, help_text()),
         Command::Version => print_line(sink, version_text()),
     }

@@ -1,0 +1,48 @@
+//! The body of an edit, which is all that a source has.
+
+use crate::client_fault::ClientFault;
+use rs_face::{Source, SourceFault};
+use rs_path::{Bytes, MAX_BODY, NoMemory};
+use std::alloc::Global;
+
+/// How many bytes are asked for at once.
+const READ_SIZE: usize = 8192;
+
+/// What one read came to.
+#[derive(Clone, Copy)]
+enum Filled {
+    /// There may be more.
+    More,
+    /// The source is at its end.
+    End,
+}
+
+/// The bytes of the source up to its end.
+///
+/// `TooLong` is answered where they are more than 67,108,864, `SourceFailed` where a read failed.
+pub(crate) fn read_body<S: Source>(alloc: Global, source: &mut S) -> Result<Bytes, ClientFault> {
+    let mut body = Vec::new(alloc);
+    while let Filled::More = fill(&mut body, source)? {}
+    Ok(Bytes::of(body).shared())
+}
+
+// Reads once.
+fn fill<S: Source>(body: &mut Vec<u8>, source: &mut S) -> Result<Filled, ClientFault> {
+    let mut room = [0; READ_SIZE];
+    match source.read(&mut room) {
+        Ok(0) => Ok(Filled::End),
+        Ok(count) => {
+            if MAX_BODY - body.len() < count {
+                return Err(ClientFault::TooLong);
+            }
+            push_all(body, &room[..count])?;
+            Ok(Filled::More)
+        }
+        Err(SourceFault::Failed) => Err(ClientFault::SourceFailed),
+    }
+}
+
+fn push_all(body: &mut Vec<u8>, bytes: &[u8]) -> Result<(), NoMemory> {
+    body.extend_from_slice(bytes)?;
+    Ok(())
+}
