@@ -1,6 +1,6 @@
 //! Commands.
 
-ghost use Rattle.std.specs.Prelude.{◌≡◌, true};
+ghost use Rattle.std.specs.Prelude.{◌≡◌, true, false};
 ghost use Rattle.rs_path.specs.Users.{is_user};
 
 use rs_cache::Resolve;
@@ -26,6 +26,20 @@ pub struct Serving<'a> {
     ghost named: { is_user user.now ≡ true },
 }
 
+/// The path of a document.
+#[derive(Debug, Drop)]
+pub struct Document {
+    pub path: Path,
+    ghost document: { path.now.folder ≡ false },
+}
+
+/// The path of a folder.
+#[derive(Debug, Drop)]
+pub struct Folder {
+    pub path: Path,
+    ghost folder: { path.now.folder ≡ true },
+}
+
 /// What the words of a command line ask for.
 #[derive(Debug, Drop)]
 pub enum Command<'a> {
@@ -44,13 +58,13 @@ pub enum Command<'a> {
         scopes: Scopes,
     },
     /// `put PATH TYPE`: the source, up to its end, is the document from now on. Prints `put`.
-    Put { path: Path, kind: Kind },
+    Put { document: Document, kind: Kind },
     /// `get PATH`: prints the body of the document, and nothing else.
-    Get { path: Path },
+    Get { document: Document },
     /// `rm PATH`: there is no such document from now on. Prints `removed`.
-    Remove { path: Path },
+    Remove { document: Document },
     /// `ls FOLDER`: prints the names in the folder, a line each, folders with `/`.
-    List { folder: Path },
+    List { folder: Folder },
     /// `status`: prints the root, and counts of documents, changes that wait, held ones, and conflicts.
     Status,
     /// `conflicts`: prints a line for each conflict.

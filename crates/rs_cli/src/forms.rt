@@ -2,7 +2,8 @@
 
 ghost use Rattle.std.specs.Prelude.{◌≡◌, IfOk, is_ok};
 ghost use Rattle.rs_scope.specs.ScopeReadings.{scopes_reading};
-ghost use Rattle.rs_cli.specs.Forms.{forms};
+ghost use Rattle.rs_talk.specs.Roots.{root_reading};
+ghost use Rattle.rs_cli.specs.Forms.{forms, how_spelled, is_document, is_folder, path_spelled};
 
 use crate::number::read_number;
 use rs_config::{is_origin, read_secret};
@@ -176,8 +177,8 @@ impl Place {
             Place::Secret => Ok(read_secret(word.as_bytes()).is_some()),
             Place::Root => names_root(alloc, word.as_bytes()),
             Place::Bearer => Ok(Bearer::read(alloc, word.as_bytes())?.is_some()),
-            Place::Document => spells_path(alloc, word.as_bytes(), false),
-            Place::Folder => spells_path(alloc, word.as_bytes(), true),
+            Place::Document => Ok(is_document(&read_path(alloc, word.as_bytes())?)),
+            Place::Folder => Ok(is_folder(&read_path(alloc, word.as_bytes())?)),
             Place::Kind => Ok(Kind::read(alloc, word.as_bytes())?.is_some()),
             Place::How => Ok(read_how(word).is_some()),
         }
@@ -194,7 +195,9 @@ fn spells_scopes(alloc: Global, word: &[u8]) -> Result<bool, NoMemory>
     }
 }
 
-fn names_root(alloc: Global, word: &[u8]) -> Result<bool, NoMemory> {
+fn names_root(alloc: Global, word: &[u8]) -> Result<bool, NoMemory>
+    ensures names { IfOk result (λ is. is ≡ is_ok (root_reading word.now)) }
+{
     match Root::read(alloc, word) {
         Ok(_) => Ok(true),
         Err(RootFault::BadUrl | RootFault::Https) => Ok(false),
@@ -202,17 +205,39 @@ fn names_root(alloc: Global, word: &[u8]) -> Result<bool, NoMemory> {
     }
 }
 
-// A document, or a folder.
-fn spells_path(alloc: Global, word: &[u8], folder: bool) -> Result<bool, NoMemory> {
+/// The path that the word spells as it stands in the target of a request, if it spells one.
+pub fn read_path(alloc: Global, word: &[u8]) -> Result<Option<Path>, NoMemory>
+    ensures path { IfOk result (λ path. path ≡ path_spelled word.now) }
+{
     match Path::read(alloc, word) {
-        Ok(path) => Ok(path.is_folder() == folder),
-        Err(PathFault::Bad { .. }) => Ok(false),
+        Ok(path) => Ok(Some(path)),
+        Err(PathFault::Bad { .. }) => Ok(None),
         Err(PathFault::NoMemory) => Err(NoMemory),
     }
 }
 
+fn is_document(path: &Option<Path>) -> bool
+    ensures document { result ≡ is_document path.now }
+{
+    match path {
+        Some(path) => !path.is_folder(),
+        None => false,
+    }
+}
+
+fn is_folder(path: &Option<Path>) -> bool
+    ensures folder { result ≡ is_folder path.now }
+{
+    match path {
+        Some(path) => path.is_folder(),
+        None => false,
+    }
+}
+
 /// How a conflict is resolved, by its word.
-pub fn read_how(word: &str) -> Option<Resolve> {
+pub fn read_how(word: &str) -> Option<Resolve>
+    ensures how { result ≡ how_spelled word.now }
+{
     match word {
         "keep" => Some(Resolve::Keep),
         "drop" => Some(Resolve::Drop),

@@ -173,20 +173,20 @@ fn command_of<'a>(alloc: Global, form: Form, words: &'a [String]) -> Result<Comm
             })
         }
         Form::Put => {
-            let path = path_at(alloc, words, 1)?;
+            let document = document_at(alloc, words, 1)?;
             let kind = kind_at(alloc, words, 2)?;
-            Ok(Command::Put { path, kind })
+            Ok(Command::Put { document, kind })
         }
         Form::Get => {
-            let path = path_at(alloc, words, 1)?;
-            Ok(Command::Get { path })
+            let document = document_at(alloc, words, 1)?;
+            Ok(Command::Get { document })
         }
         Form::Remove => {
-            let path = path_at(alloc, words, 1)?;
-            Ok(Command::Remove { path })
+            let document = document_at(alloc, words, 1)?;
+            Ok(Command::Remove { document })
         }
         Form::List => {
-            let folder = path_at(alloc, words, 1)?;
+            let folder = folder_at(alloc, words, 1)?;
             Ok(Command::List { folder })
         }
         Form::Status => Ok(Command::Status),
@@ -287,35 +287,57 @@ fn scopes_at(alloc: Global, words: &[String], index: usize) -> Result<Scopes, No
     }
 }
 
-// The root of a word that names one, so that nothing but memory can be wanting.
-fn root_at(alloc: Global, words: &[String], index: usize) -> Result<Root, NoMemory> {
+// The root of a word that names one, so that nothing but memory can be wanting. The same goes for the calls below.
+fn root_at(alloc: Global, words: &[String], index: usize) -> Result<Root, NoMemory>
+    ensures root { IfOk result (λ root. root_reading (word_at (map string_bytes words.now) index) ≡ Ok root) }
+{
     match Root::read(alloc, word_at(words, index).as_bytes()) {
         Ok(root) => Ok(root),
         Err(_) => Err(NoMemory),
     }
 }
 
-fn bearer_at(alloc: Global, words: &[String], index: usize) -> Result<Bearer, NoMemory> {
+fn bearer_at(alloc: Global, words: &[String], index: usize) -> Result<Bearer, NoMemory>
+    ensures bearer { IfOk result (λ bearer. bearer ≡ word_at (map string_bytes words.now) index) }
+    ensures test { IfOk result (λ bearer. is_bearer bearer ≡ true) }
+{
     match Bearer::read(alloc, word_at(words, index).as_bytes())? {
         Some(bearer) => Ok(bearer),
         None => Err(NoMemory),
     }
 }
 
-fn path_at(alloc: Global, words: &[String], index: usize) -> Result<Path, NoMemory> {
-    match Path::read(alloc, word_at(words, index).as_bytes()) {
-        Ok(path) => Ok(path),
-        Err(_) => Err(NoMemory),
-    }
-}
-
-fn kind_at(alloc: Global, words: &[String], index: usize) -> Result<Kind, NoMemory> {
+fn kind_at(alloc: Global, words: &[String], index: usize) -> Result<Kind, NoMemory>
+    ensures kind { IfOk result (λ kind. kind ≡ word_at (map string_bytes words.now) index) }
+    ensures test { IfOk result (λ kind. is_kind kind ≡ true) }
+{
     match Kind::read(alloc, word_at(words, index).as_bytes())? {
         Some(kind) => Ok(kind),
         None => Err(NoMemory),
     }
 }
 
-fn how_at(words: &[String], index: usize) -> Resolve {
+fn document_at(alloc: Global, words: &[String], index: usize) -> Result<Document, NoMemory>
+    ensures path { IfOk result (λ document. path_spelled (word_at (map string_bytes words.now) index) ≡ Some document.path) }
+{
+    match read_path(alloc, word_at(words, index).as_bytes())? {
+        Some(path) if !path.is_folder() => Ok(Document { path }),
+        _ => Err(NoMemory),
+    }
+}
+
+fn folder_at(alloc: Global, words: &[String], index: usize) -> Result<Folder, NoMemory>
+    ensures path { IfOk result (λ folder. path_spelled (word_at (map string_bytes words.now) index) ≡ Some folder.path) }
+{
+    match read_path(alloc, word_at(words, index).as_bytes())? {
+        Some(path) if path.is_folder() => Ok(Folder { path }),
+        _ => Err(NoMemory),
+    }
+}
+
+fn how_at(words: &[String], index: usize) -> Resolve
+    requires how { is_some (how_spelled (word_at (map string_bytes words.now) index)) ≡ true }
+    ensures how { how_spelled (word_at (map string_bytes words.now) index) ≡ Some result }
+{
     read_how(word_at(words, index)).unwrap()
 }

@@ -1,5 +1,7 @@
 //! Why a command on a journal isn't done.
 
+ghost use Rattle.std.specs.Prelude.{◌≡◌};
+
 use rs_cache::{CacheFault, OpenFault};
 use rs_path::{NoMemory, Path};
 
@@ -35,12 +37,21 @@ pub enum ClientFault {
 }
 
 impl From<NoMemory> for ClientFault {
+    ghost use Rattle.rs_client.specs.declared.client_fault.ClientFault.TheVariants.{NoMemory};
+
+    ghost from_gives = { λ _ fault. fault ≡ NoMemory };
+
     fn from(_fault: NoMemory) -> ClientFault {
         ClientFault::NoMemory
     }
 }
 
 impl From<OpenFault> for ClientFault {
+    ghost use Rattle.std.specs.Prelude.{◌≡◌};
+    ghost use Rattle.rs_client.specs.Causes.{opening_fault};
+
+    ghost from_gives = { λ cause fault. fault ≡ opening_fault cause };
+
     fn from(fault: OpenFault) -> ClientFault {
         match fault {
             OpenFault::BadRow { index, place } => ClientFault::BadRow { index, place },
@@ -52,6 +63,11 @@ impl From<OpenFault> for ClientFault {
 }
 
 impl From<CacheFault> for ClientFault {
+    ghost use Rattle.std.specs.Prelude.{◌≡◌};
+    ghost use Rattle.rs_client.specs.Causes.{client_fault};
+
+    ghost from_gives = { λ cause fault. fault ≡ client_fault cause };
+
     fn from(fault: CacheFault) -> ClientFault {
         match fault {
             CacheFault::Connected => ClientFault::Connected,

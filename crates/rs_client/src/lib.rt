@@ -6,6 +6,7 @@ mod editing;
 mod opening;
 mod showing;
 mod source_body;
+mod texts;
 
 pub use client_fault::ClientFault;
 pub use editing::{connect, put, remove, resolve};

@@ -1,122 +1,76 @@
 //! The commands that show what the journal says. They leave it as it is.
 
+ghost use Rattle.std.specs.Prelude.{◌≡◌, true};
+ghost use Rattle.rs_face.specs.Courses.{course};
+ghost use Rattle.rs_client.specs.Answers.{shown_document, shown_listing, shown_summary, shown_conflicts};
+ghost use Rattle.rs_client.specs.Showings.{Shows};
+
 use crate::client_fault::ClientFault;
 use crate::opening::open_connected;
-use itoa::Buffer;
-use rs_cache::{Client, Conflict};
+use crate::texts::{conflicts_text, listing_text, summary_text};
 use rs_face::Keeper;
-use rs_path::{Bytes, Child, NoMemory, Path};
-use rs_talk::{Base, Change};
+use rs_path::{Bytes, Path};
 use std::alloc::Global;
 
 /// `get`: the body of the document in the view.
 ///
-/// The first that applies is answered: the first wrong row; `NotConnected`; `NotThere`.
+/// The first that applies is answered: the first wrong row; `NotConnected`; `NotThere`. `KeeperFailed` comes only where
+/// the keeper's count of faults rose. The rows are as before.
 pub fn document<K: Keeper>(
     alloc: Global,
     keeper: &mut K,
     path: &Path,
-) -> Result<Bytes, ClientFault> {
+) -> Result<Bytes, ClientFault>
+    ensures shows { Shows (shown_document path.now) (course K.rows K.faults keeper.old keeper.new) result }
+{
     let client = open_connected(alloc, keeper)?;
     match client.view(path) {
-        Some((_, body)) => Ok(body.copy()?),
+        Some((_, body)) => {
+            let body = body.copy()?;
+            Ok(body)
+        }
         None => Err(ClientFault::NotThere),
     }
 }
 
 /// `ls`: the names in the folder, in byte order of keys, a line each, folders with `/`. A folder that isn't there has none.
 ///
-/// The first that applies is answered: the first wrong row; `NotConnected`.
+/// The first that applies is answered: the first wrong row; `NotConnected`. `KeeperFailed` comes only where the keeper's
+/// count of faults rose. The rows are as before.
 pub fn listing<K: Keeper>(
     alloc: Global,
     keeper: &mut K,
     folder: &Path,
-) -> Result<Vec<u8>, ClientFault> {
+) -> Result<Bytes, ClientFault>
+    requires folder { folder.now.folder ≡ true }
+    ensures shows { Shows (shown_listing folder.now) (course K.rows K.faults keeper.old keeper.new) result }
+{
     let client = open_connected(alloc, keeper)?;
-    let mut text = Vec::new(alloc);
-    for child in client.list(folder)?.iter() {
-        put_child(&mut text, child)?;
-    }
+    let children = client.list(folder)?;
+    let text = listing_text(alloc, &children)?;
     Ok(text)
 }
 
 /// `status`: lines with the root, and how many documents, changes that wait, of these held ones, and conflicts there are.
 ///
-/// The first that applies is answered: the first wrong row; `NotConnected`.
-pub fn summary<K: Keeper>(alloc: Global, keeper: &mut K) -> Result<Vec<u8>, ClientFault> {
+/// The first that applies is answered: the first wrong row; `NotConnected`. `KeeperFailed` comes only where the keeper's
+/// count of faults rose. The rows are as before.
+pub fn summary<K: Keeper>(alloc: Global, keeper: &mut K) -> Result<Bytes, ClientFault>
+    ensures shows { Shows shown_summary (course K.rows K.faults keeper.old keeper.new) result }
+{
     let client = open_connected(alloc, keeper)?;
-    let mut text = Vec::new(alloc);
-    put_summary(&mut text, &client)?;
+    let text = summary_text(alloc, client.root(), client.summary())?;
     Ok(text)
 }
 
 /// `conflicts`: a line for each conflict that isn't resolved: its number, the path, the change, and the tag of what the server had.
 ///
-/// The first that applies is answered: the first wrong row; `NotConnected`.
-pub fn conflicts<K: Keeper>(alloc: Global, keeper: &mut K) -> Result<Vec<u8>, ClientFault> {
+/// The first that applies is answered: the first wrong row; `NotConnected`. `KeeperFailed` comes only where the keeper's
+/// count of faults rose. The rows are as before.
+pub fn conflicts<K: Keeper>(alloc: Global, keeper: &mut K) -> Result<Bytes, ClientFault>
+    ensures shows { Shows shown_conflicts (course K.rows K.faults keeper.old keeper.new) result }
+{
     let client = open_connected(alloc, keeper)?;
-    let mut text = Vec::new(alloc);
-    for conflict in client.conflicts() {
-        put_conflict(&mut text, conflict)?;
-    }
+    let text = conflicts_text(alloc, client.conflicts())?;
     Ok(text)
-}
-
-// ---- lines
-
-fn put_child(out: &mut Vec<u8>, child: &Child) -> Result<(), NoMemory> {
-    child.name.write_target(out)?;
-    if child.folder {
-        put_text(out, b"/")?;
-    }
-    put_text(out, b"\n")
-}
-
-fn put_summary(out: &mut Vec<u8>, client: &Client) -> Result<(), NoMemory> {
-    let counts = client.summary();
-    put_text(out, b"root ")?;
-    put_text(out, client.root().as_slice())?;
-    put_count(out, b"\ndocuments ", counts.documents)?;
-    put_count(out, b"\npending ", counts.pending)?;
-    put_count(out, b"\nheld ", counts.held)?;
-    put_count(out, b"\nconflicts ", counts.conflicts)?;
-    put_text(out, b"\n")
-}
-
-fn put_conflict(out: &mut Vec<u8>, conflict: &Conflict) -> Result<(), NoMemory> {
-    put_count(out, b"", conflict.n)?;
-    put_text(out, b" ")?;
-    conflict.path.write_target(out)?;
-    put_change(out, &conflict.local)?;
-    put_text(out, b" remote ")?;
-    put_remote(out, &conflict.remote)?;
-    put_text(out, b"\n")
-}
-
-fn put_change(out: &mut Vec<u8>, change: &Change) -> Result<(), NoMemory> {
-    match change {
-        Change::Remove => put_text(out, b" remove"),
-        Change::Put { kind, body } => {
-            put_text(out, b" put ")?;
-            put_text(out, kind.as_slice())?;
-            put_count(out, b" ", body.as_slice().len() as u64)
-        }
-    }
-}
-
-fn put_remote(out: &mut Vec<u8>, remote: &Option<Base>) -> Result<(), NoMemory> {
-    match remote {
-        None => put_text(out, b"absent"),
-        Some(base) => put_text(out, base.tag.as_slice()),
-    }
-}
-
-fn put_count(out: &mut Vec<u8>, text: &[u8], count: u64) -> Result<(), NoMemory> {
-    put_text(out, text)?;
-    put_text(out, Buffer::new().format(count).as_bytes())
-}
-
-fn put_text(out: &mut Vec<u8>, text: &[u8]) -> Result<(), NoMemory> {
-    out.extend_from_slice(text)?;
-    Ok(())
 }

@@ -1,0 +1,9 @@
+pub mod Causes
+pub mod Texts
+pub mod Answers
+pub mod Clients
+pub mod Showings
+pub mod Additions
+pub mod Connecting
+pub mod Putting
+pub mod Reading
