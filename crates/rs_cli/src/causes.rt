@@ -28,6 +28,11 @@ impl From<WordFault> for Note {
 }
 
 impl From<ClientFault> for Note {
+    ghost use Rattle.std.specs.Prelude.{◌≡◌};
+    ghost use Rattle.rs_cli.specs.Causes.{note_of_client};
+
+    ghost from_gives = { λ fault note. note ≡ note_of_client fault };
+
     fn from(fault: ClientFault) -> Note {
         match fault {
             ClientFault::BadRow { index, place } => Note::RowAt { index, place },

@@ -3,6 +3,7 @@
 ghost use Rattle.std.specs.Prelude.{◌++◌, decimal};
 ghost use Rattle.rs_face.specs.Causes.{HasCause};
 ghost use Rattle.rs_face.specs.Courses.{course, Writes};
+ghost use Rattle.rs_cli.specs.ClientEnds.{SaysDone, SaysShown};
 ghost use Rattle.rs_cli.specs.Grants.{Prints, line_of};
 
 use crate::causes::note_of_printing;
@@ -10,6 +11,7 @@ use crate::note::Note;
 use itoa::Buffer;
 use rs_client::ClientFault;
 use rs_face::{Sink, SinkFault, write_all};
+use rs_path::Bytes;
 
 /// Prints the text and a line end, and hands them on. The note is `Empty`, or says why not; then a front of them was written.
 pub fn print_line<W: Sink>(sink: &mut W, text: &[u8]) -> Note
@@ -19,7 +21,7 @@ pub fn print_line<W: Sink>(sink: &mut W, text: &[u8]) -> Note
 }
 
 /// Prints the text, and hands it on. The note is as that of [`print_line`].
-pub fn print_text<W: Sink>(sink: &mut W, text: &[u8]) -> Note
+fn print_text<W: Sink>(sink: &mut W, text: &[u8]) -> Note
     ensures prints { Prints (course W.written W.faults sink.old sink.new) text.now result }
 {
     note_of_printing(write_text(sink, text))
@@ -58,16 +60,20 @@ fn write_line<W: Sink>(sink: &mut W, text: &[u8]) -> Result<(), SinkFault>
     sink.flush()
 }
 
-/// Prints the word of a command that was done, or says why it wasn't.
-pub fn print_done<W: Sink>(sink: &mut W, done: Result<(), ClientFault>, word: &[u8]) -> Note {
+/// Prints the word of a command that was done and a line end, or says why it wasn't done.
+pub fn print_done<W: Sink>(sink: &mut W, done: Result<(), ClientFault>, word: &[u8]) -> Note
+    ensures says { SaysDone word.now (course W.written W.faults sink.old sink.new) done.entry result }
+{
     match done {
         Ok(()) => print_line(sink, word),
         Err(fault) => Note::from(fault),
     }
 }
 
-/// Prints the text that a command shows, or says why there is none.
-pub fn print_shown<W: Sink>(sink: &mut W, shown: Result<Vec<u8>, ClientFault>) -> Note {
+/// Prints the text that a command shows, as it is, or says why there is none.
+pub fn print_shown<W: Sink>(sink: &mut W, shown: Result<Bytes, ClientFault>) -> Note
+    ensures says { SaysShown (course W.written W.faults sink.old sink.new) shown.entry result }
+{
     match shown {
         Ok(text) => print_text(sink, text.as_slice()),
         Err(fault) => Note::from(fault),

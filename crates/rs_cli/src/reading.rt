@@ -1,21 +1,24 @@
 //! The words of the command line read as a command.
 
 ghost use Rattle.std.specs.Prelude.{◌≡◌, ◌≤◌, true, Some, Ok, length, map, is_some, string_bytes, IfOk};
+ghost use Rattle.rs_path.specs.Kinds.{is_kind};
 ghost use Rattle.rs_path.specs.Users.{is_user};
 ghost use Rattle.rs_scope.specs.Tokens.{token_reading};
 ghost use Rattle.rs_scope.specs.ScopeReadings.{scopes_reading};
+ghost use Rattle.rs_talk.specs.Bearers.{is_bearer};
+ghost use Rattle.rs_talk.specs.Roots.{root_reading};
 ghost use Rattle.rs_cli.specs.Numbers.{number_spelled};
-ghost use Rattle.rs_cli.specs.Forms.{takes, tests_of};
+ghost use Rattle.rs_cli.specs.Forms.{how_spelled, path_spelled, takes, tests_of};
 ghost use Rattle.rs_cli.specs.Scans.{count_taken, fits};
-ghost use Rattle.rs_cli.specs.Commands.{AsksFor, FindsAmong, FindsForm, ReadsCommand, plain_setting, setting_in, word_at};
+ghost use Rattle.rs_cli.specs.Commands.{AsksFor, FindsAmong, FindsForm, ReadsCommand, fault_at, names_https, plain_setting, setting_in, word_at};
 ghost use Rattle.rs_config.specs.Secrets.{secret_reading};
 
-use crate::command::{Command, Serving, WordFault};
-use crate::forms::{Form, Place, forms, read_how};
+use crate::command::{Command, Document, Folder, Serving, WordFault};
+use crate::forms::{Form, Place, forms, read_how, read_path};
 use crate::number::read_number;
 use rs_config::read_secret;
 use rs_cache::Resolve;
-use rs_path::{Kind, NoMemory, Path};
+use rs_path::{Kind, NoMemory};
 use rs_scope::{Scopes, Token};
 use rs_talk::{Bearer, Root, RootFault};
 use std::alloc::Global;
@@ -28,14 +31,25 @@ const DEFAULT_BASE: &str = "http://localhost";
 
 /// Reads the words, without the program's name, as a command. A word is wrong where none of the forms goes on with the
 /// words up to it; the first wrong word is told by its index, counted from 0. Where the words begin a form and none ends
-/// there, this is the number of words.
+/// there, this is the number of words. Where it is the word behind `connect`, and an `https` address, this is told instead.
 pub fn read_command<'a>(alloc: Global, words: &'a [String]) -> Result<Command<'a>, WordFault>
     ensures read { ReadsCommand result (map string_bytes words.now) }
 {
     match find_form(alloc, words) {
         Ok(form) => Ok(command_of(alloc, form, words)?),
-        Err(WordFault::Word { index: 1 }) if names_https(alloc, words)? => Err(WordFault::Https),
+        Err(WordFault::Word { index }) => Err(fault_at(alloc, words, index)?),
         Err(fault) => Err(fault),
+    }
+}
+
+// What is said of the first wrong word, at this index.
+fn fault_at(alloc: Global, words: &[String], index: u64) -> Result<WordFault, NoMemory>
+    ensures fault { IfOk result (λ fault. fault ≡ fault_at (map string_bytes words.now) index) }
+{
+    if index == 1 && names_https(alloc, words)? {
+        Ok(WordFault::Https)
+    } else {
+        Ok(WordFault::Word { index })
     }
 }
 
@@ -117,8 +131,10 @@ fn count_in(alloc: Global, places: &[Place], words: &[String]) -> Result<usize, 
     }
 }
 
-// The words are `connect` and an `https` address, and maybe others.
-fn names_https(alloc: Global, words: &[String]) -> Result<bool, NoMemory> {
+// The words are `connect` and an `https` address, whatever follows.
+fn names_https(alloc: Global, words: &[String]) -> Result<bool, NoMemory>
+    ensures https { IfOk result (λ is. is ≡ names_https (map string_bytes words.now)) }
+{
     if word_at(words, 0) != "connect" {
         return Ok(false);
     }

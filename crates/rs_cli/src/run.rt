@@ -9,7 +9,7 @@ ghost use Rattle.rs_cli.specs.Runs.{Runs, Does};
 use crate::command::{Command, RowsFile, WordFault};
 use crate::granting::{grant, revoke};
 use crate::note::Note;
-use crate::printing::{print_done, print_line, print_shown, print_text};
+use crate::printing::{print_done, print_line, print_shown};
 use crate::serving::pipe;
 use crate::status::Status;
 use crate::texts::{help_text, version_text};
@@ -107,22 +107,34 @@ fn run_command<S: Source, W: Sink, K: Keeper, E: Entropy>(
             root,
             token,
             scopes,
-        } => print_done(sink, connect(alloc, keeper, &root, &token, &scopes), b"connected"),
-        Command::Put { path, kind } => {
-            let done = put(alloc, keeper, source, &path, &kind);
+        } => {
+            let done = connect(alloc, keeper, &root, &token, &scopes);
+            print_done(sink, done, b"connected")
+        }
+        Command::Put { document, kind } => {
+            let done = put(alloc, keeper, source, &document.path, &kind);
             print_done(sink, done, b"put")
         }
-        Command::Get { path } => match document(alloc, keeper, &path) {
-            Ok(body) => print_text(sink, body.as_slice()),
-            Err(fault) => Note::from(fault),
-        },
-        Command::Remove { path } => {
-            let done = remove(alloc, keeper, &path);
+        Command::Get { document: asked } => {
+            let shown = document(alloc, keeper, &asked.path);
+            print_shown(sink, shown)
+        }
+        Command::Remove { document } => {
+            let done = remove(alloc, keeper, &document.path);
             print_done(sink, done, b"removed")
         }
-        Command::List { folder } => print_shown(sink, listing(alloc, keeper, &folder)),
-        Command::Status => print_shown(sink, summary(alloc, keeper)),
-        Command::Conflicts => print_shown(sink, conflicts(alloc, keeper)),
+        Command::List { folder } => {
+            let shown = listing(alloc, keeper, &folder.path);
+            print_shown(sink, shown)
+        }
+        Command::Status => {
+            let shown = summary(alloc, keeper);
+            print_shown(sink, shown)
+        }
+        Command::Conflicts => {
+            let shown = conflicts(alloc, keeper);
+            print_shown(sink, shown)
+        }
         Command::Resolve { n, how } => {
             let done = resolve(alloc, keeper, n, how);
             print_done(sink, done, b"resolved")
