@@ -11,7 +11,7 @@ mod serving;
 mod words;
 
 use ending::{exit_code, report};
-use rows::{PresentFolder, SystemFiles};
+use rows::{RowsInFile, SystemFiles};
 use rs_cli::{Note, Status};
 use rs_net::OsEntropy;
 use rs_path::NoMemory;
@@ -48,7 +48,8 @@ fn run<T: Threads + Wait + Sync>(rt: &HostRuntime, threads: &T, words: &[String]
         words,
         &mut StdSource::new(rt.stdin()),
         &mut sink,
-        &mut PresentFolder::new(rt),
+        &mut RowsInFile::of_user(rt),
+        &mut RowsInFile::of_journal(rt),
         &mut OsEntropy::new(rt),
     )
 }

@@ -1,4 +1,4 @@
-//! The rows of a user in a database file: `rows.db` of the present folder, or another.
+//! Rows in a database file: those of a user in `rows.db` of the present folder or another, those of a client in its `journal.db`.
 
 ghost use Rattle.std.specs.Prelude.{◌≡◌, IfOk};
 
@@ -67,25 +67,39 @@ impl Keeper for FileRows {
 /// How many pages of the file are kept in memory. They are enough for the way to a row, and a run reads each row once.
 const CACHE_PAGES: usize = 64;
 
-/// The folder that the program runs in. It tells no rows, since any disk may lie.
+/// A file of rows in the folder that the program runs in. It tells no rows, since any disk may lie.
 #[derive(Drop)]
-pub struct PresentFolder<'a> {
+pub struct RowsInFile<'a> {
     rt: &'a HostRuntime,
+    name: &'static str,
+    kind: FileKind,
     faults: u64,
     is_opened: bool,
 }
 
-impl<'a> PresentFolder<'a> {
-    pub fn new(rt: &'a HostRuntime) -> PresentFolder<'a> {
-        PresentFolder {
+impl<'a> RowsInFile<'a> {
+    /// The rows of a user, in `rows.db`.
+    pub fn of_user(rt: &'a HostRuntime) -> RowsInFile<'a> {
+        RowsInFile::at(rt, "rows.db", FileKind::UserRows)
+    }
+
+    /// The rows of a client's journal, in `journal.db`.
+    pub fn of_journal(rt: &'a HostRuntime) -> RowsInFile<'a> {
+        RowsInFile::at(rt, "journal.db", FileKind::Journal)
+    }
+
+    fn at(rt: &'a HostRuntime, name: &'static str, kind: FileKind) -> RowsInFile<'a> {
+        RowsInFile {
             rt,
+            name,
+            kind,
             faults: 0,
             is_opened: false,
         }
     }
 }
 
-impl RowsPlace for PresentFolder<'_> {
+impl RowsPlace for RowsInFile<'_> {
     type Rows = FileRows;
 
     ghost use Rattle.std.specs.Prelude.{None};
@@ -98,7 +112,7 @@ impl RowsPlace for PresentFolder<'_> {
 
     fn open(&mut self) -> Result<FileRows, KeepFault> {
         self.is_opened = true;
-        match open_rows(self.rt, "rows.db") {
+        match open_rows(self.rt, self.name, self.kind) {
             Ok(rows) => Ok(rows.with_faults(self.faults)),
             Err(KeepFault::Failed) => {
                 self.faults = self.faults.saturating_add(1);
@@ -131,7 +145,7 @@ impl UserFiles for SystemFiles<'_> {
     type Rows = FileRows;
 
     fn open(&self, name: &str) -> Result<FileRows, KeepFault> {
-        open_rows(self.rt, name)
+        open_rows(self.rt, name, FileKind::UserRows)
     }
 
     fn close(&self, rows: FileRows) {
@@ -139,10 +153,10 @@ impl UserFiles for SystemFiles<'_> {
     }
 }
 
-// Opens the rows of a user in this file, which are none where there is no such file yet. It is one program's at a time,
+// Opens the rows of this kind in this file, which are none where there is no such file yet. It is one program's at a time,
 // and a file of rows of another kind isn't opened.
 // With few pages in memory: `Connection::open` would take room for 2,000, 8 MiB, at once.
-fn open_rows(rt: &HostRuntime, name: &str) -> Result<FileRows, KeepFault> {
+fn open_rows(rt: &HostRuntime, name: &str, kind: FileKind) -> Result<FileRows, KeepFault> {
     let files = match open(rt, name, Unknown) {
         Ok(files) => files,
         Err(OpenError::OutOfMemory) => return Err(KeepFault::NoMemory),
@@ -159,7 +173,7 @@ fn open_rows(rt: &HostRuntime, name: &str) -> Result<FileRows, KeepFault> {
         ..Options::new(state.hash_one(&0u8))
     };
     Ok(FileRows {
-        keeper: open_files(rt.alloc(), files, options, FileKind::UserRows)?,
+        keeper: open_files(rt.alloc(), files, options, kind)?,
     })
 }
 

@@ -8,13 +8,13 @@ ghost use Rattle.rs_cli.specs.declared.command.RowsFile.TheVariants as file;
 ghost use Rattle.rs_cli.specs.Notes.{code_of};
 ghost use Rattle.rs_cli.specs.Commands.{ReadsCommand, file_of};
 ghost use Rattle.rs_cli.specs.Runs.{Runs};
-ghost use Rattle.rs.specs.Shells.{WantRows};
+ghost use Rattle.rs.specs.Shells.{WantRows, file_wanted, rows_for};
 
 use rs_cli::{Command, Note, RowsFile, Status, read_command, run_here};
 use rs_face::{Entropy, KeepFault, Keeper, NoFailKeeper, Sink, Source};
 use std::alloc::Global;
 
-/// The place where the rows of a user are kept, opened where a command wants them.
+/// The place where rows are kept, those of a user or those of a client's journal, opened where a command wants them.
 pub trait RowsPlace {
     type Rows: Keeper + Drop;
 
@@ -42,28 +42,30 @@ pub trait RowsPlace {
         ensures opened { is_opened self.new ≡ is_opened self.old };
 }
 
-/// Does what the words say over these objects: what `run_here` does, over the rows that are kept at the place. Words that ask for
-/// no rows leave the place alone, so that no file is made.
+/// Does what the words say over these objects: what `run_here` does, over the rows that are kept at the place that the command
+/// wants, those of a user or those of a journal. Words that ask for no rows of a place leave it alone, so that no file is made.
 pub fn run_words<S: Source, W: Sink, P: RowsPlace, E: Entropy>(
     alloc: Global,
     words: &[String],
     source: &mut S,
     sink: &mut W,
-    place: &mut P,
+    user: &mut P,
+    journal: &mut P,
     entropy: &mut E,
 ) -> Status
     ensures run { Runs (record {
-      rows = course P.kept P.faults place.old place.new;
+      rows = rows_for (file_wanted (map string_bytes words.now)) (course P.kept P.faults user.old user.new) (course P.kept P.faults journal.old journal.new);
       words = course E.words E.faults entropy.old entropy.new;
       source = course S.left S.faults source.old source.new;
       sink = course W.written W.faults sink.old sink.new;
       wants = course W.written W.wants sink.old sink.new;
     }) (map string_bytes words.now) result.note }
     ensures code { result.code ≡ code_of result.note }
-    ensures unopened { ¬ WantRows (map string_bytes words.now) → place.new ≡ place.old }
+    ensures no_user { ¬ WantRows file.User (map string_bytes words.now) → user.new ≡ user.old }
+    ensures no_journal { ¬ WantRows file.Journal (map string_bytes words.now) → journal.new ≡ journal.old }
 {
     match read_command(alloc, words) {
-        Ok(command) => run_command(alloc, command, source, sink, place, entropy),
+        Ok(command) => run_command(alloc, command, source, sink, user, journal, entropy),
         Err(fault) => Note::from(fault).status(),
     }
 }
@@ -73,21 +75,24 @@ fn run_command<S: Source, W: Sink, P: RowsPlace, E: Entropy>(
     command: Command<'_>,
     source: &mut S,
     sink: &mut W,
-    place: &mut P,
+    user: &mut P,
+    journal: &mut P,
     entropy: &mut E,
 ) -> Status
     ensures run { (words : List (List ℕ)) → ReadsCommand (Ok command.entry) words → Runs (record {
-      rows = course P.kept P.faults place.old place.new;
+      rows = rows_for (file_of command.entry) (course P.kept P.faults user.old user.new) (course P.kept P.faults journal.old journal.new);
       words = course E.words E.faults entropy.old entropy.new;
       source = course S.left S.faults source.old source.new;
       sink = course W.written W.faults sink.old sink.new;
       wants = course W.written W.wants sink.old sink.new;
     }) words result.note }
     ensures code { result.code ≡ code_of result.note }
-    ensures unopened { file_of command.entry ≡ file.None → place.new ≡ place.old }
+    ensures no_user { (file_of command.entry ≡ file.User → ⊥) → user.new ≡ user.old }
+    ensures no_journal { (file_of command.entry ≡ file.Journal → ⊥) → journal.new ≡ journal.old }
 {
     match command.rows_file() {
-        RowsFile::User => run_over_rows(alloc, command, source, sink, place, entropy),
+        RowsFile::User => run_over_rows(alloc, command, source, sink, user, entropy),
+        RowsFile::Journal => run_over_rows(alloc, command, source, sink, journal, entropy),
         RowsFile::None => run_without_rows(alloc, command, source, sink, entropy),
     }
 }
@@ -100,7 +105,7 @@ fn run_over_rows<S: Source, W: Sink, P: RowsPlace, E: Entropy>(
     place: &mut P,
     entropy: &mut E,
 ) -> Status
-    requires user { file_of command ≡ file.User }
+    requires rows { file_of command ≡ file.None → ⊥ }
     ensures run { (words : List (List ℕ)) → ReadsCommand (Ok command.entry) words → Runs (record {
       rows = course P.kept P.faults place.old place.new;
       words = course E.words E.faults entropy.old entropy.new;

@@ -1,18 +1,22 @@
 -- What words in a form are.
-use Rattle.std.proofs.Common.{◌≡◌, ℕ, Bool, true, List, [], ◌∷◌, ◌++◌, length, codes, is_some, Some, Ok, refl, sym, ap, ◌∙◌, arith}
+use Rattle.std.proofs.Common.{◌≡◌, ℕ, Bool, true, false, List, [], ◌∷◌, ◌++◌, length, codes, is_some, Some, Ok, refl, sym, ap, ◌∙◌, arith}
 use Rattle.std.proofs.lemmas.Bool.{and_parts}
 use Rattle.std.proofs.lemmas.Slice.Eq.{bytes_eq-Decides}
+use Rattle.rs_path.specs.Kinds.{is_kind}
+use Rattle.rs_path.specs.Paths.{Path}
 use Rattle.rs_path.specs.Users.{is_user}
+use Rattle.rs_talk.specs.Bearers.{is_bearer}
+use Rattle.rs_talk.specs.Roots.{Root, root_reading}
 use Rattle.rs_scope.specs.declared.scope.Scope.{Scope}
 use Rattle.rs_scope.specs.ScopeReadings.{scopes_reading}
 use Rattle.rs_scope.specs.Tokens.{token_reading}
-use Rattle.rs_cli.specs.declared.forms.Form.TheVariants.{PipeAt}
-use Rattle.rs_cli.specs.declared.forms.Place.TheVariants.{User, Token, Scopes, Number, Origin, Any, Secret}
-use Rattle.rs_cli.specs.Forms.{literally, takes, tests_of}
+use Rattle.rs_cli.specs.declared.forms.Form.TheVariants.{PipeAt, Connect, Put}
+use Rattle.rs_cli.specs.declared.forms.Place.TheVariants.{User, Token, Scopes, Number, Origin, Any, Secret, Root as RootPlace, Bearer, Document, Kind}
+use Rattle.rs_cli.specs.Forms.{literally, takes, tests_of, path_spelled}
 use Rattle.rs_cli.specs.Numbers.{number_spelled}
 use Rattle.rs_cli.specs.Scans.{fits}
 use Rattle.rs_config.specs.Secrets.{secret_reading}
-use Rattle.rs_cli.specs.Commands.{Setting, full_setting, IsPipe, word_at}
+use Rattle.rs_cli.specs.Commands.{Setting, full_setting, IsPipe, IsConnect, IsPut, word_at}
 
 -- each place takes its word
 pub fits_at : (before : List (List ℕ → Bool)) (test : List ℕ → Bool) (behind : List (List ℕ → Bool)) (words : List (List ℕ))
@@ -78,4 +82,51 @@ is_pipe_at words user token scopes setting quota secret is same_user same_token 
       token_is = same_token;
       scopes_are = same_scopes;
       setting_is = (λ i. full_setting (same_quota i) (word_at words 5) (word_at words 6) (same_secret i)) ∙ ap Some (sym same);
+    }
+
+-- ---- the words of `connect` and `put`
+
+four_words : (words : List (List ℕ)) → length words ≡ 4 → words ≡ word_at words 0 ∷ word_at words 1 ∷ word_at words 2 ∷ word_at words 3 ∷ []
+four_words [] is = absurd (omega (arith, is))
+four_words (a ∷ []) is = absurd (omega (arith, is))
+four_words (a ∷ b ∷ []) is = absurd (omega (arith, is))
+four_words (a ∷ b ∷ c ∷ []) is = absurd (omega (arith, is))
+four_words (a ∷ b ∷ c ∷ d ∷ []) is = refl
+four_words (a ∷ b ∷ c ∷ d ∷ e ∷ words) is = absurd (omega (arith, is))
+
+three_words : (words : List (List ℕ)) → length words ≡ 3 → words ≡ word_at words 0 ∷ word_at words 1 ∷ word_at words 2 ∷ []
+three_words [] is = absurd (omega (arith, is))
+three_words (a ∷ []) is = absurd (omega (arith, is))
+three_words (a ∷ b ∷ []) is = absurd (omega (arith, is))
+three_words (a ∷ b ∷ c ∷ []) is = refl
+three_words (a ∷ b ∷ c ∷ d ∷ words) is = absurd (omega (arith, is))
+
+pub is_connect_at : (words : List (List ℕ)) (root : Root) (token : List ℕ) (scopes : List Scope) → fits (tests_of Connect) words ≡ true
+    → root_reading (word_at words 1) ≡ Ok root → token ≡ word_at words 2 → is_bearer token ≡ true → scopes_reading (word_at words 3) ≡ Ok scopes
+    → IsConnect root token scopes words
+is_connect_at words root token scopes is same_root same_token bearer same_scopes =
+    let four = four_words words (fits_length (tests_of Connect) words is) in
+    let name : word_at words 0 ≡ codes "connect" = (bytes_eq-Decides (word_at words 0) (codes "connect")).0
+    (fits_at [] (literally (codes "connect")) (takes RootPlace ∷ takes Bearer ∷ takes Scopes ∷ []) words is) in
+    record {
+      root_word = word_at words 1;
+      scopes_word = word_at words 3;
+      are = four ∙ (λ i. name i ∷ word_at words 1 ∷ sym same_token i ∷ word_at words 3 ∷ []);
+      root_is = same_root;
+      token_is = bearer;
+      scopes_are = same_scopes;
+    }
+
+pub is_put_at : (words : List (List ℕ)) (path : Path) (kind : List ℕ) → fits (tests_of Put) words ≡ true
+    → path_spelled (word_at words 1) ≡ Some path → path.folder ≡ false → kind ≡ word_at words 2 → is_kind kind ≡ true → IsPut path kind words
+is_put_at words path kind is same_path document same_kind test =
+    let three = three_words words (fits_length (tests_of Put) words is) in
+    let name : word_at words 0 ≡ codes "put" = (bytes_eq-Decides (word_at words 0) (codes "put")).0
+    (fits_at [] (literally (codes "put")) (takes Document ∷ takes Kind ∷ []) words is) in
+    record {
+      path_word = word_at words 1;
+      are = three ∙ (λ i. name i ∷ word_at words 1 ∷ sym same_kind i ∷ []);
+      path_is = same_path;
+      document = document;
+      kind_is = test;
     }

@@ -6,7 +6,7 @@ use Rattle.std.proofs.lemmas.List.{length-map, take_all}
 use Rattle.rs_path.specs.Paths.{is_nil}
 use Rattle.rs_cli.specs.declared.forms.Form.{Form}
 use Rattle.rs_cli.specs.declared.command.WordFault.{WordFault}
-use Rattle.rs_cli.specs.declared.command.WordFault.TheVariants.{Word, NoMemory}
+use Rattle.rs_cli.specs.declared.command.WordFault.TheVariants.{Word, Https, NoMemory}
 use Rattle.rs_cli.specs.Forms.{takes, named_places, tests_of, forms, forms_after, some_ends, first_wrong}
 use Rattle.rs_cli.specs.Scans.{count_taken, fits, some_fits, most_taken}
 use Rattle.rs_cli.specs.Commands.{FindsAmong, FindsForm}
@@ -101,6 +101,7 @@ among_more form forms most count (Err (Word index)) words unfit counted found = 
   ap (λ b. b || some_fits (map tests_of forms) words) unfit ∙ found.0,
   let same = found.1 in omega (arith, same, counted),
 )
+among_more form forms most count (Err Https) words unfit counted found = absurd found
 among_more form forms most count (Err NoMemory) words unfit counted found = tt
 
 -- the first form, in which the words are
@@ -117,6 +118,7 @@ among_all (Ok form) words found = (
 among_all (Err (Word index)) words found =
     wrong_is 0 (map tests_of forms) words ∙ ap (λ b. cond b None (Some (0 + most_taken (map tests_of forms) words))) found.0
     ∙ ap Some (let same = found.1 in omega (arith, same))
+among_all (Err Https) words found = absurd found
 among_all (Err NoMemory) words found = tt
 
 -- ---- counts

@@ -6,6 +6,8 @@ use Rattle.rs_row.specs.declared.open_fault.OpenFault.{OpenFault}
 use Rattle.rs_row.specs.declared.open_fault.OpenFault.TheVariants as opening
 use Rattle.rs_front.specs.declared.serve.End.{End}
 use Rattle.rs_front.specs.declared.serve.End.TheVariants as end
+use Rattle.rs_client.specs.declared.client_fault.ClientFault.{ClientFault}
+use Rattle.rs_client.specs.declared.client_fault.ClientFault.TheVariants as client
 use Rattle.rs_config.specs.declared.config_fault.ConfigFault.{ConfigFault}
 use Rattle.rs_config.specs.declared.config_fault.ConfigFault.TheVariants as config
 use Rattle.rs_cli.specs.declared.request_fault.RequestFault.{RequestFault}
@@ -18,7 +20,24 @@ use Rattle.rs_cli.specs.declared.note.Note.TheVariants as note
 -- words that are no command
 abbrev pub note_of_words : WordFault → Note
 note_of_words (words.Word index) = note.Word index
+note_of_words words.Https = note.Https
 note_of_words words.NoMemory = note.NoMemory
+
+-- a command on a journal that isn't done
+abbrev pub note_of_client : ClientFault → Note
+note_of_client (client.BadRow index place) = note.RowAt index place
+note_of_client (client.Unlawful index) = note.RowUnlawful index
+note_of_client client.Connected = note.Connected
+note_of_client client.NotConnected = note.NotConnected
+note_of_client client.SourceFailed = note.SourceFailed
+note_of_client client.TooLong = note.TooLong
+note_of_client client.OutOfScope = note.OutOfScope
+note_of_client (client.Clash path) = note.Clash path
+note_of_client client.NotThere = note.NotThere
+note_of_client (client.NoConflict n) = note.NoConflict n
+note_of_client client.JournalFull = note.Limit
+note_of_client client.KeeperFailed = note.KeeperFailed
+note_of_client client.NoMemory = note.NoMemory
 
 -- a configuration that is refused
 abbrev pub note_of_config : ConfigFault → Note

@@ -8,6 +8,7 @@ pub mod Causes
 pub mod Grants
 pub mod Asking
 pub mod Pipes
+pub mod ClientEnds
 pub mod Texts
 pub mod Runs
 pub mod Completeness

@@ -6,6 +6,7 @@ ghost use Rattle.rs_cli.specs.Causes.{note_of_printing};
 use crate::command::WordFault;
 use crate::note::Note;
 use crate::request_fault::RequestFault;
+use rs_client::ClientFault;
 use rs_config::ConfigFault;
 use rs_face::{EntropyFault, SinkFault};
 use rs_front::End;
@@ -20,7 +21,33 @@ impl From<WordFault> for Note {
     fn from(fault: WordFault) -> Note {
         match fault {
             WordFault::Word { index } => Note::Word { index },
+            WordFault::Https => Note::Https,
             WordFault::NoMemory => Note::NoMemory,
+        }
+    }
+}
+
+impl From<ClientFault> for Note {
+    ghost use Rattle.std.specs.Prelude.{◌≡◌};
+    ghost use Rattle.rs_cli.specs.Causes.{note_of_client};
+
+    ghost from_gives = { λ fault note. note ≡ note_of_client fault };
+
+    fn from(fault: ClientFault) -> Note {
+        match fault {
+            ClientFault::BadRow { index, place } => Note::RowAt { index, place },
+            ClientFault::Unlawful { index } => Note::RowUnlawful { index },
+            ClientFault::Connected => Note::Connected,
+            ClientFault::NotConnected => Note::NotConnected,
+            ClientFault::SourceFailed => Note::SourceFailed,
+            ClientFault::TooLong => Note::TooLong,
+            ClientFault::OutOfScope => Note::OutOfScope,
+            ClientFault::Clash { path } => Note::Clash { path },
+            ClientFault::NotThere => Note::NotThere,
+            ClientFault::NoConflict { n } => Note::NoConflict { n },
+            ClientFault::JournalFull => Note::Limit,
+            ClientFault::KeeperFailed => Note::KeeperFailed,
+            ClientFault::NoMemory => Note::NoMemory,
         }
     }
 }

@@ -1,10 +1,12 @@
 //! Commands.
 
-ghost use Rattle.std.specs.Prelude.{◌≡◌, true};
+ghost use Rattle.std.specs.Prelude.{◌≡◌, true, false};
 ghost use Rattle.rs_path.specs.Users.{is_user};
 
-use rs_path::NoMemory;
+use rs_cache::Resolve;
+use rs_path::{Kind, NoMemory, Path};
 use rs_scope::{Scopes, Token};
+use rs_talk::{Bearer, Root};
 
 /// Whom `pipe` serves, where, and which token with which scopes.
 #[derive(Debug, Drop)]
@@ -24,17 +26,69 @@ pub struct Serving<'a> {
     ghost named: { is_user user.now ≡ true },
 }
 
+/// The path of a document.
+#[derive(Debug, Drop)]
+pub struct Document {
+    pub path: Path,
+    ghost document: { path.folder ≡ false },
+}
+
+/// The path of a folder.
+#[derive(Debug, Drop)]
+pub struct Folder {
+    pub path: Path,
+    ghost folder: { path.folder ≡ true },
+}
+
 /// What the words of a command line ask for.
 #[derive(Debug, Drop)]
 pub enum Command<'a> {
     /// `pipe USER TOKEN SCOPES [QUOTA [BASE SALT SECRET]]`: grants the token these scopes where it isn't granted, and serves
     /// the source to the sink. The quota is in bytes, and 1,073,741,824 where none is given; then the address is
     /// `http://localhost`, and the user has no password.
-    Pipe { serving: Serving<'a> },
+    Pipe {
+        serving: Serving<'a>,
+    },
     /// `grant SCOPES`: grants a token of two random words these scopes, and prints it.
-    Grant { scopes: Scopes },
+    Grant {
+        scopes: Scopes,
+    },
     /// `revoke TOKEN`: takes the token's scopes away.
-    Revoke { token: Token },
+    Revoke {
+        token: Token,
+    },
+    /// `connect ROOT TOKEN SCOPES`: connects the client of an empty journal to the account, and prints `connected`.
+    Connect {
+        root: Root,
+        token: Bearer,
+        scopes: Scopes,
+    },
+    /// `put PATH TYPE`: the source, up to its end, is the document from now on. Prints `put`.
+    Put {
+        document: Document,
+        kind: Kind,
+    },
+    /// `get PATH`: prints the body of the document, and nothing else.
+    Get {
+        document: Document,
+    },
+    /// `rm PATH`: there is no such document from now on. Prints `removed`.
+    Remove {
+        document: Document,
+    },
+    /// `ls FOLDER`: prints the names in the folder, a line each, folders with `/`.
+    List {
+        folder: Folder,
+    },
+    /// `status`: prints the root, and counts of documents, changes that wait, held ones, and conflicts.
+    Status,
+    /// `conflicts`: prints a line for each conflict.
+    Conflicts,
+    /// `resolve N keep` and `resolve N drop`: the change of a conflict waits again, or is given up. Prints `resolved`.
+    Resolve {
+        n: u64,
+        how: Resolve,
+    },
     /// `--help`: prints the forms of the words.
     Help,
     /// `--version`: prints the program's version.
@@ -51,6 +105,14 @@ impl Command<'_> {
     {
         match self {
             Command::Pipe { .. } | Command::Grant { .. } | Command::Revoke { .. } => RowsFile::User,
+            Command::Connect { .. }
+            | Command::Put { .. }
+            | Command::Get { .. }
+            | Command::Remove { .. }
+            | Command::List { .. }
+            | Command::Status
+            | Command::Conflicts
+            | Command::Resolve { .. } => RowsFile::Journal,
             Command::Help | Command::Version => RowsFile::None,
         }
     }
@@ -63,6 +125,8 @@ pub enum RowsFile {
     None,
     /// The rows of a user.
     User,
+    /// The rows of a client's journal.
+    Journal,
 }
 
 /// Why words are no command.
@@ -71,6 +135,8 @@ pub enum WordFault {
     /// The index, counted from 0, of the first word with which no form goes on; the number of words where they begin a
     /// form and none ends there.
     Word { index: u64 },
+    /// The word behind `connect` is an `https` address, which isn't served.
+    Https,
     /// Memory ran out.
     NoMemory,
 }

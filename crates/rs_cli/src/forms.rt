@@ -2,12 +2,15 @@
 
 ghost use Rattle.std.specs.Prelude.{◌≡◌, IfOk, is_ok};
 ghost use Rattle.rs_scope.specs.ScopeReadings.{scopes_reading};
-ghost use Rattle.rs_cli.specs.Forms.{forms};
+ghost use Rattle.rs_talk.specs.Roots.{root_reading};
+ghost use Rattle.rs_cli.specs.Forms.{forms, how_spelled, is_document, is_folder, path_spelled};
 
 use crate::number::read_number;
+use rs_cache::Resolve;
 use rs_config::{is_origin, read_secret};
-use rs_path::{NoMemory, is_user};
+use rs_path::{Kind, NoMemory, Path, PathFault, is_user};
 use rs_scope::{ScopeFault, Scopes, Token};
+use rs_talk::{Bearer, Root, RootFault};
 use std::alloc::Global;
 
 /// What stands at a place of a form.
@@ -27,6 +30,18 @@ pub enum Place {
     Any,
     /// SECRET: 64 lower hexadecimal digits.
     Secret,
+    /// ROOT: the `http` address of an account, as `Root::read` reads it.
+    Root,
+    /// TOKEN of an account: 1 to 1,024 letters, digits and `-._~+/`, and `=` at the end.
+    Bearer,
+    /// PATH: a document, in the spelling of a request's target.
+    Document,
+    /// FOLDER: a folder, in the spelling of a request's target.
+    Folder,
+    /// TYPE: a content type.
+    Kind,
+    /// `keep` or `drop`.
+    How,
 }
 
 /// A form, which is a row of the table.
@@ -42,6 +57,22 @@ pub enum Form {
     Grant,
     /// `revoke TOKEN`
     Revoke,
+    /// `connect ROOT TOKEN SCOPES`
+    Connect,
+    /// `put PATH TYPE`
+    Put,
+    /// `get PATH`
+    Get,
+    /// `rm PATH`
+    Remove,
+    /// `ls FOLDER`
+    List,
+    /// `status`
+    Status,
+    /// `conflicts`
+    Conflicts,
+    /// `resolve N keep` and `resolve N drop`
+    Resolve,
     /// `--help`
     Help,
     /// `--version`
@@ -65,6 +96,14 @@ pub fn forms() -> &'static [Form]
         Form::PipeAt,
         Form::Grant,
         Form::Revoke,
+        Form::Connect,
+        Form::Put,
+        Form::Get,
+        Form::Remove,
+        Form::List,
+        Form::Status,
+        Form::Conflicts,
+        Form::Resolve,
         Form::Help,
         Form::Version,
     ]
@@ -99,6 +138,14 @@ impl Form {
             ),
             Form::Grant => named(b"grant", &[Place::Scopes]),
             Form::Revoke => named(b"revoke", &[Place::Token]),
+            Form::Connect => named(b"connect", &[Place::Root, Place::Bearer, Place::Scopes]),
+            Form::Put => named(b"put", &[Place::Document, Place::Kind]),
+            Form::Get => named(b"get", &[Place::Document]),
+            Form::Remove => named(b"rm", &[Place::Document]),
+            Form::List => named(b"ls", &[Place::Folder]),
+            Form::Status => named(b"status", &[]),
+            Form::Conflicts => named(b"conflicts", &[]),
+            Form::Resolve => named(b"resolve", &[Place::Number, Place::How]),
             Form::Help => named(b"--help", &[]),
             Form::Version => named(b"--version", &[]),
         }
@@ -128,6 +175,12 @@ impl Place {
             Place::Origin => is_origin(alloc, word),
             Place::Any => Ok(true),
             Place::Secret => Ok(read_secret(word.as_bytes()).is_some()),
+            Place::Root => names_root(alloc, word.as_bytes()),
+            Place::Bearer => Ok(Bearer::read(alloc, word.as_bytes())?.is_some()),
+            Place::Document => Ok(is_document(&read_path(alloc, word.as_bytes())?)),
+            Place::Folder => Ok(is_folder(&read_path(alloc, word.as_bytes())?)),
+            Place::Kind => Ok(Kind::read(alloc, word.as_bytes())?.is_some()),
+            Place::How => Ok(read_how(word).is_some()),
         }
     }
 }
@@ -139,5 +192,55 @@ fn spells_scopes(alloc: Global, word: &[u8]) -> Result<bool, NoMemory>
         Ok(_) => Ok(true),
         Err(ScopeFault::Bad { .. }) => Ok(false),
         Err(ScopeFault::NoMemory) => Err(NoMemory),
+    }
+}
+
+fn names_root(alloc: Global, word: &[u8]) -> Result<bool, NoMemory>
+    ensures names { IfOk result (λ is. is ≡ is_ok (root_reading word.now)) }
+{
+    match Root::read(alloc, word) {
+        Ok(_) => Ok(true),
+        Err(RootFault::BadUrl | RootFault::Https) => Ok(false),
+        Err(RootFault::NoMemory) => Err(NoMemory),
+    }
+}
+
+/// The path that the word spells as it stands in the target of a request, if it spells one.
+pub fn read_path(alloc: Global, word: &[u8]) -> Result<Option<Path>, NoMemory>
+    ensures path { IfOk result (λ path. path ≡ path_spelled word.now) }
+{
+    match Path::read(alloc, word) {
+        Ok(path) => Ok(Some(path)),
+        Err(PathFault::Bad { .. }) => Ok(None),
+        Err(PathFault::NoMemory) => Err(NoMemory),
+    }
+}
+
+fn is_document(path: &Option<Path>) -> bool
+    ensures document { result ≡ is_document path.now }
+{
+    match path {
+        Some(path) => !path.is_folder(),
+        None => false,
+    }
+}
+
+fn is_folder(path: &Option<Path>) -> bool
+    ensures folder { result ≡ is_folder path.now }
+{
+    match path {
+        Some(path) => path.is_folder(),
+        None => false,
+    }
+}
+
+/// How a conflict is resolved, by its word.
+pub fn read_how(word: &str) -> Option<Resolve>
+    ensures how { result ≡ how_spelled word.now }
+{
+    match word {
+        "keep" => Some(Resolve::Keep),
+        "drop" => Some(Resolve::Drop),
+        _ => None,
     }
 }

@@ -1,21 +1,26 @@
 //! The words of the command line read as a command.
 
 ghost use Rattle.std.specs.Prelude.{◌≡◌, ◌≤◌, true, Some, Ok, length, map, is_some, string_bytes, IfOk};
+ghost use Rattle.rs_path.specs.Kinds.{is_kind};
 ghost use Rattle.rs_path.specs.Users.{is_user};
 ghost use Rattle.rs_scope.specs.Tokens.{token_reading};
 ghost use Rattle.rs_scope.specs.ScopeReadings.{scopes_reading};
+ghost use Rattle.rs_talk.specs.Bearers.{is_bearer};
+ghost use Rattle.rs_talk.specs.Roots.{root_reading};
 ghost use Rattle.rs_cli.specs.Numbers.{number_spelled};
-ghost use Rattle.rs_cli.specs.Forms.{takes, tests_of};
+ghost use Rattle.rs_cli.specs.Forms.{how_spelled, path_spelled, takes, tests_of};
 ghost use Rattle.rs_cli.specs.Scans.{count_taken, fits};
-ghost use Rattle.rs_cli.specs.Commands.{AsksFor, FindsAmong, FindsForm, ReadsCommand, plain_setting, setting_in, word_at};
+ghost use Rattle.rs_cli.specs.Commands.{AsksFor, FindsAmong, FindsForm, ReadsCommand, fault_at, names_https, plain_setting, setting_in, word_at};
 ghost use Rattle.rs_config.specs.Secrets.{secret_reading};
 
-use crate::command::{Command, Serving, WordFault};
-use crate::forms::{Form, Place, forms};
+use crate::command::{Command, Document, Folder, Serving, WordFault};
+use crate::forms::{Form, Place, forms, read_how, read_path};
 use crate::number::read_number;
+use rs_cache::Resolve;
 use rs_config::read_secret;
-use rs_path::NoMemory;
+use rs_path::{Kind, NoMemory};
 use rs_scope::{Scopes, Token};
+use rs_talk::{Bearer, Root, RootFault};
 use std::alloc::Global;
 
 /// The quota where none is given, in bytes.
@@ -26,12 +31,26 @@ const DEFAULT_BASE: &str = "http://localhost";
 
 /// Reads the words, without the program's name, as a command. A word is wrong where none of the forms goes on with the
 /// words up to it; the first wrong word is told by its index, counted from 0. Where the words begin a form and none ends
-/// there, this is the number of words.
+/// there, this is the number of words. Where it is the word behind `connect`, and an `https` address, this is told instead.
 pub fn read_command<'a>(alloc: Global, words: &'a [String]) -> Result<Command<'a>, WordFault>
     ensures read { ReadsCommand result (map string_bytes words.now) }
 {
-    let form = find_form(alloc, words)?;
-    Ok(command_of(alloc, form, words)?)
+    match find_form(alloc, words) {
+        Ok(form) => Ok(command_of(alloc, form, words)?),
+        Err(WordFault::Word { index }) => Err(fault_at(alloc, words, index)?),
+        Err(fault) => Err(fault),
+    }
+}
+
+// What is said of the first wrong word, at this index.
+fn fault_at(alloc: Global, words: &[String], index: u64) -> Result<WordFault, NoMemory>
+    ensures fault { IfOk result (λ fault. fault ≡ fault_at (map string_bytes words.now) index) }
+{
+    if index == 1 && names_https(alloc, words)? {
+        Ok(WordFault::Https)
+    } else {
+        Ok(WordFault::Word { index })
+    }
 }
 
 // ---- the form of the words
@@ -112,6 +131,20 @@ fn count_in(alloc: Global, places: &[Place], words: &[String]) -> Result<usize, 
     }
 }
 
+// The words are `connect` and an `https` address, whatever follows.
+fn names_https(alloc: Global, words: &[String]) -> Result<bool, NoMemory>
+    ensures https { IfOk result (λ is. is ≡ names_https (map string_bytes words.now)) }
+{
+    if word_at(words, 0) != "connect" {
+        return Ok(false);
+    }
+    match Root::read(alloc, word_at(words, 1).as_bytes()) {
+        Err(RootFault::Https) => Ok(true),
+        Err(RootFault::NoMemory) => Err(NoMemory),
+        Ok(_) | Err(RootFault::BadUrl) => Ok(false),
+    }
+}
+
 // ---- the command of the words
 
 // The command that words in the form ask for.
@@ -144,6 +177,40 @@ fn command_of<'a>(alloc: Global, form: Form, words: &'a [String]) -> Result<Comm
         Form::Revoke => {
             let token = token_at(words, 1);
             Ok(Command::Revoke { token })
+        }
+        Form::Connect => {
+            let root = root_at(alloc, words, 1)?;
+            let token = bearer_at(alloc, words, 2)?;
+            let scopes = scopes_at(alloc, words, 3)?;
+            Ok(Command::Connect {
+                root,
+                token,
+                scopes,
+            })
+        }
+        Form::Put => {
+            let document = document_at(alloc, words, 1)?;
+            let kind = kind_at(alloc, words, 2)?;
+            Ok(Command::Put { document, kind })
+        }
+        Form::Get => {
+            let document = document_at(alloc, words, 1)?;
+            Ok(Command::Get { document })
+        }
+        Form::Remove => {
+            let document = document_at(alloc, words, 1)?;
+            Ok(Command::Remove { document })
+        }
+        Form::List => {
+            let folder = folder_at(alloc, words, 1)?;
+            Ok(Command::List { folder })
+        }
+        Form::Status => Ok(Command::Status),
+        Form::Conflicts => Ok(Command::Conflicts),
+        Form::Resolve => {
+            let n = number_at(words, 1);
+            let how = how_at(words, 2);
+            Ok(Command::Resolve { n, how })
         }
         Form::Help => Ok(Command::Help),
         Form::Version => Ok(Command::Version),
@@ -234,4 +301,59 @@ fn scopes_at(alloc: Global, words: &[String], index: usize) -> Result<Scopes, No
         Ok(scopes) => Ok(scopes),
         Err(_) => Err(NoMemory),
     }
+}
+
+// The root of a word that names one, so that nothing but memory can be wanting. The same goes for the calls below.
+fn root_at(alloc: Global, words: &[String], index: usize) -> Result<Root, NoMemory>
+    ensures root { IfOk result (λ root. root_reading (word_at (map string_bytes words.now) index) ≡ Ok root) }
+{
+    match Root::read(alloc, word_at(words, index).as_bytes()) {
+        Ok(root) => Ok(root),
+        Err(_) => Err(NoMemory),
+    }
+}
+
+fn bearer_at(alloc: Global, words: &[String], index: usize) -> Result<Bearer, NoMemory>
+    ensures bearer { IfOk result (λ bearer. bearer ≡ word_at (map string_bytes words.now) index) }
+    ensures test { IfOk result (λ bearer. is_bearer bearer ≡ true) }
+{
+    match Bearer::read(alloc, word_at(words, index).as_bytes())? {
+        Some(bearer) => Ok(bearer),
+        None => Err(NoMemory),
+    }
+}
+
+fn kind_at(alloc: Global, words: &[String], index: usize) -> Result<Kind, NoMemory>
+    ensures kind { IfOk result (λ kind. kind ≡ word_at (map string_bytes words.now) index) }
+    ensures test { IfOk result (λ kind. is_kind kind ≡ true) }
+{
+    match Kind::read(alloc, word_at(words, index).as_bytes())? {
+        Some(kind) => Ok(kind),
+        None => Err(NoMemory),
+    }
+}
+
+fn document_at(alloc: Global, words: &[String], index: usize) -> Result<Document, NoMemory>
+    ensures path { IfOk result (λ document. path_spelled (word_at (map string_bytes words.now) index) ≡ Some document.path) }
+{
+    match read_path(alloc, word_at(words, index).as_bytes())? {
+        Some(path) if !path.is_folder() => Ok(Document { path }),
+        _ => Err(NoMemory),
+    }
+}
+
+fn folder_at(alloc: Global, words: &[String], index: usize) -> Result<Folder, NoMemory>
+    ensures path { IfOk result (λ folder. path_spelled (word_at (map string_bytes words.now) index) ≡ Some folder.path) }
+{
+    match read_path(alloc, word_at(words, index).as_bytes())? {
+        Some(path) if path.is_folder() => Ok(Folder { path }),
+        _ => Err(NoMemory),
+    }
+}
+
+fn how_at(words: &[String], index: usize) -> Resolve
+    requires how { is_some (how_spelled (word_at (map string_bytes words.now) index)) ≡ true }
+    ensures how { how_spelled (word_at (map string_bytes words.now) index) ≡ Some result }
+{
+    read_how(word_at(words, index)).unwrap()
 }

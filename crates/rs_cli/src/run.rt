@@ -9,11 +9,12 @@ ghost use Rattle.rs_cli.specs.Runs.{Runs, Does};
 use crate::command::{Command, RowsFile, WordFault};
 use crate::granting::{grant, revoke};
 use crate::note::Note;
-use crate::printing::print_line;
+use crate::printing::{print_done, print_line, print_shown};
 use crate::serving::pipe;
 use crate::status::Status;
 use crate::texts::{help_text, version_text};
 use rs_chain::ChainTree;
+use rs_client::{conflicts, connect, document, listing, put, remove, resolve, summary};
 use rs_face::{Entropy, Keeper, Sink, Source};
 use std::alloc::Global;
 
@@ -102,6 +103,42 @@ fn run_command<S: Source, W: Sink, K: Keeper, E: Entropy>(
             grant::<ChainTree, K, E, W>(alloc, scopes, keeper, entropy, sink)
         }
         Command::Revoke { token } => revoke::<ChainTree, K, W>(alloc, token, keeper, sink),
+        Command::Connect {
+            root,
+            token,
+            scopes,
+        } => {
+            let done = connect(alloc, keeper, &root, &token, &scopes);
+            print_done(sink, done, b"connected")
+        }
+        Command::Put { document, kind } => {
+            let done = put(alloc, keeper, source, &document.path, &kind);
+            print_done(sink, done, b"put")
+        }
+        Command::Get { document: asked } => {
+            let shown = document(alloc, keeper, &asked.path);
+            print_shown(sink, shown)
+        }
+        Command::Remove { document } => {
+            let done = remove(alloc, keeper, &document.path);
+            print_done(sink, done, b"removed")
+        }
+        Command::List { folder } => {
+            let shown = listing(alloc, keeper, &folder.path);
+            print_shown(sink, shown)
+        }
+        Command::Status => {
+            let shown = summary(alloc, keeper);
+            print_shown(sink, shown)
+        }
+        Command::Conflicts => {
+            let shown = conflicts(alloc, keeper);
+            print_shown(sink, shown)
+        }
+        Command::Resolve { n, how } => {
+            let done = resolve(alloc, keeper, n, how);
+            print_done(sink, done, b"resolved")
+        }
         Command::Help => print_line(sink, help_text()),
         Command::Version => print_line(sink, version_text()),
     }

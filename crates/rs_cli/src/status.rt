@@ -6,7 +6,7 @@ ghost use Rattle.rs_cli.specs.Notes.{code_of};
 use crate::note::Note;
 
 /// How a command ended: the code that the program ends with, and what it says about it.
-#[derive(Clone, Copy, Debug, PartialEq, Eq)]
+#[derive(Debug, PartialEq, Eq, Drop)]
 pub struct Status {
     pub code: u8,
     pub note: Note,

@@ -8,7 +8,7 @@ ghost use Rattle.rs_cli.specs.Texts.{help_text, version_text};
 pub fn help_text() -> &'static [u8]
     ensures text { result.now ≡ help_text }
 {
-    b"rs pipe USER TOKEN SCOPES [QUOTA [BASE SALT SECRET]]\nrs grant SCOPES\nrs revoke TOKEN\nrs serve --config FILE [--workers N]\nrs --help\nrs --version"
+    b"rs pipe USER TOKEN SCOPES [QUOTA [BASE SALT SECRET]]\nrs grant SCOPES\nrs revoke TOKEN\nrs connect ROOT TOKEN SCOPES\nrs put PATH TYPE\nrs get PATH\nrs rm PATH\nrs ls FOLDER\nrs status\nrs conflicts\nrs resolve N keep|drop\nrs serve --config FILE [--workers N]\nrs --help\nrs --version"
 }
 
 /// What `--version` prints. It has no line end.

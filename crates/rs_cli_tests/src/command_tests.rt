@@ -255,6 +255,19 @@ fn words_that_stand_alone(rt: HostRuntime) -> Result<(), Fail> {
     Ok(())
 }
 
+// The commands on the journal of a client.
+const ON_A_JOURNAL: &str = r#"
+connect http://localhost/storage/alice T *:rw
+put /a text/plain
+get /a
+rm /a
+ls /
+status
+conflicts
+resolve 1 keep
+resolve 1 drop
+"#;
+
 /// The words want this file of rows.
 fn wants(rt: &impl Abort, alloc: Global, line: &str, wanted: RowsFile) -> Result<(), Fail> {
     let words = words_of(alloc, line)?;
@@ -274,7 +287,11 @@ fn which_words_want_rows(rt: HostRuntime) -> Result<(), Fail> {
         "revoke 000102030405060708090a0b0c0d0e0f",
         RowsFile::User,
     )?;
+    for line in ON_A_JOURNAL.trim().split('\n') {
+        wants(&rt, alloc, line, RowsFile::Journal)?;
+    }
     wants(&rt, alloc, "revoke", RowsFile::None)?;
+    wants(&rt, alloc, "get", RowsFile::None)?;
     wants(&rt, alloc, "pear", RowsFile::None)?;
     wants(&rt, alloc, "--help", RowsFile::None)?;
     wants(&rt, alloc, "--version", RowsFile::None)

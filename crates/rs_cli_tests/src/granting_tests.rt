@@ -240,7 +240,7 @@ fn words_without_rows(rt: HostRuntime) -> Result<(), Fail> {
     let mut entropy = MemEntropy::new(Vec::new(alloc), Vec::new(alloc));
     let version = b"rs 0.1.0\n";
     let help =
-        b"rs pipe USER TOKEN SCOPES [QUOTA [BASE SALT SECRET]]\nrs grant SCOPES\nrs revoke TOKEN\nrs serve --config FILE [--workers N]\nrs --help\nrs --version\n";
+        b"rs pipe USER TOKEN SCOPES [QUOTA [BASE SALT SECRET]]\nrs grant SCOPES\nrs revoke TOKEN\nrs connect ROOT TOKEN SCOPES\nrs put PATH TYPE\nrs get PATH\nrs rm PATH\nrs ls FOLDER\nrs status\nrs conflicts\nrs resolve N keep|drop\nrs serve --config FILE [--workers N]\nrs --help\nrs --version\n";
     let note = sees_words(&rt, alloc, "--version", &mut keeper, &mut entropy, version)?;
     assert_eq!(rt; note, Note::Empty);
     let note = sees_words(&rt, alloc, "--help", &mut keeper, &mut entropy, help)?;

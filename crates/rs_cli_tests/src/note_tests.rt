@@ -1,6 +1,7 @@
 //! Codes and texts of notes.
 
 use rs_cli::Note;
+use rs_path::Path;
 use rs_scope::Token;
 use std::alloc::Global;
 use std::process::Abort;
@@ -24,8 +25,29 @@ fn notes_of_causes(rt: HostRuntime) -> Result<(), Fail> {
     tells(&rt, alloc, Note::NotThere, 8, b">not there")?;
     tells(&rt, alloc, Note::SinkFailed, 11, b">sink failed")?;
     tells(&rt, alloc, Note::SourceFailed, 12, b">source failed")?;
+    tells(&rt, alloc, Note::OutOfScope, 13, b">out of scope")?;
     tells(&rt, alloc, Note::Limit, 14, b">limit")?;
-    tells(&rt, alloc, Note::EntropyFailed, 17, b">entropy failed")
+    tells(&rt, alloc, Note::TooLong, 15, b">too long")?;
+    tells(&rt, alloc, Note::EntropyFailed, 17, b">entropy failed")?;
+    tells(&rt, alloc, Note::Connected, 19, b">connected")?;
+    tells(&rt, alloc, Note::NotConnected, 20, b">not connected")
+}
+
+#[test]
+fn notes_of_words_and_documents(rt: HostRuntime) -> Result<(), Fail> {
+    let alloc = rt.alloc();
+    let path = Path::read(alloc, b"/n/b%20c")?;
+    tells(&rt, alloc, Note::Https, 2, b">https is not served")?;
+    tells(&rt, alloc, Note::Clash { path }, 9, b">clash /n/b%20c")?;
+    tells(
+        &rt,
+        alloc,
+        Note::NoConflict {
+            n: 18_446_744_073_709_551_615,
+        },
+        16,
+        b">no conflict 18446744073709551615",
+    )
 }
 
 #[test]

@@ -6,7 +6,7 @@ ghost use Rattle.rs_cli.specs.Notes.{code_of};
 use rs_cli::{Note, Status};
 
 /// How `serve` ended, and whose rows weren't opened.
-#[derive(Clone, Copy, Debug, PartialEq, Eq)]
+#[derive(Debug, PartialEq, Eq, Drop)]
 pub struct ServeStatus {
     /// The code that the program ends with, and what it says about it.
     pub status: Status,

@@ -3,7 +3,7 @@ use Rattle.rs_cli.specs.declared.forms.Form.{Form}
 use Rattle.rs_cli.specs.declared.forms.Place.TheVariants.{User, Token, Scopes, Number}
 use Rattle.rs_cli.specs.Forms.{literally, takes, tests_of}
 use Rattle.rs_cli.specs.Scans.{fits}
-use Rattle.rs_cli.proofs.CommandLemmas.{fits_at, user_at, token_at, quota_at, secret_at, is_pipe_at}
+use Rattle.rs_cli.proofs.CommandLemmas.{fits_at, user_at, token_at, quota_at, secret_at, is_pipe_at, is_connect_at, is_put_at}
 use Rattle.rs_cli.proofs.reading.command_of.Goals as goal
 
 pub number_at-quota-requires : goal.number_at-quota-requires
@@ -48,4 +48,22 @@ returns-in_ok-serving-in-PipeAt c =
             salt = (c.as_bytes-salt.ensures.value ∙ c.word_at.ensures.word) i;
             secret = Some c.secret_at-secret.result;
           }));
+    }
+
+-- the words `connect ROOT TOKEN SCOPES` and `put PATH TYPE`
+
+pub returns-in_ok-scopes-in-Connect : goal.returns-in_ok-scopes-in-Connect
+returns-in_ok-scopes-in-Connect c =
+    let words = map (string_bytes {Z = Global}) c.args.words.now in
+    record {
+      asked = is_connect_at words _ _ _ (subst (λ (f : Form). fits (tests_of f) words ≡ true) c.in-Connect.is c.requires.fits)
+          c.in_ok-root-in-Connect.ensures.root c.in_ok-token-in-Connect.ensures.bearer c.in_ok-token-in-Connect.ensures.test c.in_ok-scopes-in-Connect.ensures.scopes;
+    }
+
+pub returns-in_ok-kind-in-Put : goal.returns-in_ok-kind-in-Put
+returns-in_ok-kind-in-Put c =
+    let words = map (string_bytes {Z = Global}) c.args.words.now in
+    record {
+      asked = is_put_at words _ _ (subst (λ (f : Form). fits (tests_of f) words ≡ true) c.in-Put.is c.requires.fits)
+          c.in_ok-document-in-Put.ensures.path c.in_ok-document-in-Put.document.document c.in_ok-kind-in-Put.ensures.kind c.in_ok-kind-in-Put.ensures.test;
     }
