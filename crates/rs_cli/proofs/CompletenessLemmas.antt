@@ -45,7 +45,7 @@ use Rattle.rs_cli.specs.declared.note.Note.TheVariants.{Limit, Message}
 use Rattle.rs_cli.specs.declared.request_fault.RequestFault.{RequestFault}
 use Rattle.rs_cli.specs.declared.request_fault.RequestFault.TheVariants as asked
 use Rattle.rs_cli.specs.Causes.{note_of_client, note_of_opening, note_of_request, note_of_printing, note_of_end}
-use Rattle.rs_cli.specs.Commands.{AsksFor, default_quota, fault_at, setting_in}
+use Rattle.rs_cli.specs.Commands.{AsksFor, default_quota, words_fault, setting_in}
 use Rattle.rs_cli.specs.ClientEnds.{SaysDone, SaysShown, ConnectEnds, PutEnds, AddEnds, ShowEnds}
 use Rattle.rs_cli.specs.Forms.{wrong_word}
 use Rattle.rs_face.specs.Courses.{Course, HasFailed}
@@ -347,5 +347,5 @@ pub complete : (out : Outside) (words : List (List ℕ)) (note : Note) → Runs 
 complete out words note (inl does) right faultless allowed =
     inl (does.command, does.asked, does_well out does.command note faultless (allowed does.command does.asked) does.done)
 complete out words note (inr (inl wrong, still)) right faultless allowed =
-    let never : None ≡ Some wrong.fault = sym (ap (option_map (fault_at words)) right) ∙ wrong.wrong in absurd cc
+    let never : None ≡ Some wrong.fault = sym (ap (option_map (words_fault words)) right) ∙ wrong.wrong in absurd cc
 complete out words note (inr (inr said, still)) right faultless allowed = inr said

@@ -173,12 +173,12 @@ abbrev pub names_https : List (List ℕ) → Bool
 names_https words = bytes_eq (word_at words 0) (codes "connect") && is_https (root_reading (word_at words 1))
 
 -- what is said of the first wrong word, at this index: of an `https` address behind `connect` that it is one, of another its index
-abbrev pub fault_at : List (List ℕ) → ℕ → WordFault
-fault_at words index = if index == 1 && names_https words then Https else Word index
+abbrev pub words_fault : List (List ℕ) → ℕ → WordFault
+words_fault words index = if index == 1 && names_https words then Https else Word index
 
 -- why the words are no command, if they are none
 abbrev pub word_fault : List (List ℕ) → Option WordFault
-word_fault words = option_map (fault_at words) (wrong_word words)
+word_fault words = option_map (words_fault words) (wrong_word words)
 
 -- the words were read: they ask for the command; or it is told why they are none; or memory ran out
 abbrev pub ReadsCommand : Result Command WordFault → List (List ℕ) → Type 0

@@ -27,9 +27,9 @@ abbrev pub path_spelled : List ℕ → Option Path
 path_spelled word = result_ok (target_reading word)
 
 -- there is a path, and it is a document's
-abbrev pub is_document : Option Path → Bool
-is_document None = false
-is_document (Some path) = not path.folder
+abbrev pub is_document_path : Option Path → Bool
+is_document_path None = false
+is_document_path (Some path) = not path.folder
 
 -- there is a path, and it is a folder's
 abbrev pub is_folder : Option Path → Bool
@@ -54,7 +54,7 @@ takes Any word = true
 takes Secret word = is_some (secret_reading word)
 takes Root word = is_ok (root_reading word)
 takes Bearer word = is_bearer word
-takes Document word = is_document (path_spelled word)
+takes Document word = is_document_path (path_spelled word)
 takes Folder word = is_folder (path_spelled word)
 takes Kind word = is_kind word
 takes How word = is_some (how_spelled word)

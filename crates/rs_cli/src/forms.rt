@@ -3,7 +3,7 @@
 ghost use Rattle.std.specs.Prelude.{◌≡◌, IfOk, is_ok};
 ghost use Rattle.rs_scope.specs.ScopeReadings.{scopes_reading};
 ghost use Rattle.rs_talk.specs.Roots.{root_reading};
-ghost use Rattle.rs_cli.specs.Forms.{forms, how_spelled, is_document, is_folder, path_spelled};
+ghost use Rattle.rs_cli.specs.Forms.{forms, how_spelled, is_document_path, is_folder, path_spelled};
 
 use crate::number::read_number;
 use rs_cache::Resolve;
@@ -177,7 +177,7 @@ impl Place {
             Place::Secret => Ok(read_secret(word.as_bytes()).is_some()),
             Place::Root => names_root(alloc, word.as_bytes()),
             Place::Bearer => Ok(Bearer::read(alloc, word.as_bytes())?.is_some()),
-            Place::Document => Ok(is_document(&read_path(alloc, word.as_bytes())?)),
+            Place::Document => Ok(is_document_path(&read_path(alloc, word.as_bytes())?)),
             Place::Folder => Ok(is_folder(&read_path(alloc, word.as_bytes())?)),
             Place::Kind => Ok(Kind::read(alloc, word.as_bytes())?.is_some()),
             Place::How => Ok(read_how(word).is_some()),
@@ -216,8 +216,8 @@ pub fn read_path(alloc: Global, word: &[u8]) -> Result<Option<Path>, NoMemory>
     }
 }
 
-fn is_document(path: &Option<Path>) -> bool
-    ensures document { result ≡ is_document path.now }
+fn is_document_path(path: &Option<Path>) -> bool
+    ensures document { result ≡ is_document_path path.now }
 {
     match path {
         Some(path) => !path.is_folder(),

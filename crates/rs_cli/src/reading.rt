@@ -10,7 +10,7 @@ ghost use Rattle.rs_talk.specs.Roots.{root_reading};
 ghost use Rattle.rs_cli.specs.Numbers.{number_spelled};
 ghost use Rattle.rs_cli.specs.Forms.{how_spelled, path_spelled, takes, tests_of};
 ghost use Rattle.rs_cli.specs.Scans.{count_taken, fits};
-ghost use Rattle.rs_cli.specs.Commands.{AsksFor, FindsAmong, FindsForm, ReadsCommand, fault_at, names_https, plain_setting, setting_in, word_at};
+ghost use Rattle.rs_cli.specs.Commands.{AsksFor, FindsAmong, FindsForm, ReadsCommand, words_fault, names_https, plain_setting, setting_in, word_at};
 ghost use Rattle.rs_config.specs.Secrets.{secret_reading};
 
 use crate::command::{Command, Document, Folder, Serving, WordFault};
@@ -37,14 +37,14 @@ pub fn read_command<'a>(alloc: Global, words: &'a [String]) -> Result<Command<'a
 {
     match find_form(alloc, words) {
         Ok(form) => Ok(command_of(alloc, form, words)?),
-        Err(WordFault::Word { index }) => Err(fault_at(alloc, words, index)?),
+        Err(WordFault::Word { index }) => Err(words_fault(alloc, words, index)?),
         Err(fault) => Err(fault),
     }
 }
 
 // What is said of the first wrong word, at this index.
-fn fault_at(alloc: Global, words: &[String], index: u64) -> Result<WordFault, NoMemory>
-    ensures fault { IfOk result (λ fault. fault ≡ fault_at (map string_bytes words.now) index) }
+fn words_fault(alloc: Global, words: &[String], index: u64) -> Result<WordFault, NoMemory>
+    ensures fault { IfOk result (λ fault. fault ≡ words_fault (map string_bytes words.now) index) }
 {
     if index == 1 && names_https(alloc, words)? {
         Ok(WordFault::Https)
