@@ -1,5 +1,5 @@
 -- Commands that want rows, and such as want none.
-use Rattle.std.proofs.Common.{◌≡◌, ◌⊎◌, inl, inr, ℕ, List, Option, Some, None, IfSome, Result, Ok, Err, codes, refl, sym, ap}
+use Rattle.std.proofs.Common.{◌≡◌, ◌⊎◌, inl, inr, ℕ, List, Option, Some, None, IfSome, Result, Ok, Err, codes, refl, sym, ap, subst}
 use Rattle.rs_face.specs.Courses.{Course, HasFailed, IsLater, IsSame, IsUntouched}
 use Rattle.rs_row.specs.declared.open_fault.OpenFault.TheVariants as opening
 use Rattle.rs_path.specs.Paths.{Path}
@@ -16,6 +16,7 @@ use Rattle.rs_client.specs.declared.client_fault.ClientFault.TheVariants as clie
 use Rattle.rs_client.specs.Answers.{shown_document, shown_listing, shown_summary, shown_conflicts}
 use Rattle.rs_cli.specs.declared.command.Command.{Command}
 use Rattle.rs_cli.specs.declared.command.Command.TheVariants.{Pipe, Grant, Revoke, Connect, Put, Get, Remove, List as ListFolder, Status, Conflicts, Resolve, Help, Version}
+use Rattle.rs_cli.specs.declared.command.RowsFile.{RowsFile}
 use Rattle.rs_cli.specs.declared.command.RowsFile.TheVariants as file
 use Rattle.rs_cli.specs.declared.note.Note.{Note}
 use Rattle.rs_cli.specs.declared.note.Note.TheVariants.{KeeperFailed, NoMemory}
@@ -24,7 +25,7 @@ use Rattle.rs_cli.specs.Commands.{AsksFor, ReadsCommand, file_of}
 use Rattle.rs_cli.specs.Grants.{NotOpened}
 use Rattle.rs_cli.specs.Outsides.{Outside}
 use Rattle.rs_cli.specs.Runs.{Does, Runs}
-use Rattle.rs.specs.Shells.{file_wanted}
+use Rattle.rs.specs.Shells.{WantRows, file_wanted, rows_for}
 
 -- ---- rows that weren't opened
 
@@ -148,3 +149,18 @@ wanted_is Conflicts words asks = sym (ap file_wanted asks)
 wanted_is (Resolve n how) words asks = sym (ap file_wanted asks.are)
 wanted_is Help words asks = sym (ap file_wanted asks)
 wanted_is Version words asks = sym (ap file_wanted asks)
+
+-- what was done over the rows that the command wants was done over those that the words want
+pub runs_wanted : (user journal : Course (List (List ℕ))) (drawn source sink wants : Course (List ℕ)) (command : Command) (words : List (List ℕ)) (note : Note)
+    → ReadsCommand (Ok command) words
+    → Runs (record { rows = rows_for (file_of command) user journal; words = drawn; source = source; sink = sink; wants = wants }) words note
+    → Runs (record { rows = rows_for (file_wanted words) user journal; words = drawn; source = source; sink = sink; wants = wants }) words note
+runs_wanted user journal drawn source sink wants command words note reads runs = subst
+    (λ (f : RowsFile). Runs (record { rows = rows_for f user journal; words = drawn; source = source; sink = sink; wants = wants }) words note)
+    (wanted_is command words reads.1)
+    runs
+
+-- words that want no rows of a file are a command that wants none
+pub unwanted : (wanted : RowsFile) (command : Command) (words : List (List ℕ)) → ReadsCommand (Ok command) words → ¬ WantRows wanted words
+    → file_of command ≡ wanted → ⊥
+unwanted wanted command words reads not is = not (record { command = command; right = reads.0; asked = reads.1; wants = is })
