@@ -10,8 +10,9 @@ ghost use Rattle.rs_cli.specs.Outsides.{Outside, IsFaultless};
 ghost use Rattle.rs_cli.specs.Runs.{Runs};
 
 /// Completeness: where the words are in a form, no count of faults rose, and nothing refuses what they ask for (the told rows
-/// are opened, and the token may be granted or taken away), the command succeeded or memory ran out. A connection that was
-/// served may also have ended by what came in over it: after 1,000 replies, or at bytes that are no request.
+/// are opened, and the token may be granted or taken away, or the client that they make refuses nothing), the command succeeded
+/// or memory ran out. A connection that was served may also have ended by what came in over it: after 1,000 replies, or at bytes
+/// that are no request.
 pub fn completeness_law()
     ensures complete { (out : Outside) (words : List (List ℕ)) (note : Note) → Runs out words note → wrong_word words ≡ None
         → IsFaultless out → ((command : Command) → AsksFor command words → Allows out command) → IsComplete words note }

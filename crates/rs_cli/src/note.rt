@@ -27,9 +27,9 @@ pub enum Note {
     NotThere,
     /// Code 9: the document has no place in the view, since this one is in its way.
     Clash { path: Path },
-    /// Code 10: the row at this index, counted from 0, spells no record; the place of its fault in it.
+    /// Code 10: the row at this index, counted from 0, spells no record or event; the place of its fault in it.
     RowAt { index: u64, place: u32 },
-    /// Code 10: the record of the row at this index doesn't stand rightly after those before it.
+    /// Code 10: the record or event of the row at this index doesn't stand rightly after those before it.
     RowUnlawful { index: u64 },
     /// Code 11: the sink failed.
     SinkFailed,

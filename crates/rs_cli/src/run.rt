@@ -25,8 +25,12 @@ use std::alloc::Global;
 /// for its token. `grant SCOPES` grants a token of two words of the entropy and
 /// prints it; `revoke TOKEN` takes its scopes away and prints `revoked`; `--help` and `--version` print a text.
 ///
-/// The status says how it ended; `Note` has what each code means. Refusals come in this order: words, rows, the command's
-/// own, sink. A command but `pipe` that is refused hasn't touched the sink; where the sink itself failed its effect stands.
+/// `connect`, `put`, `get`, `rm`, `ls`, `status`, `conflicts` and `resolve` do what the call of this kind in `rs_client` does over
+/// a journal's rows, and then print a word, or what they show; `put` reads the source to its end.
+///
+/// The status says how it ended; `Note` has what each code means. Refusals come in this order: words, rows, whether a client is
+/// connected, source, the command's own, sink. A command but `pipe` that is refused hasn't touched the sink; where the sink itself
+/// failed its effect stands.
 pub fn run_here<S: Source, W: Sink, K: Keeper, E: Entropy>(
     alloc: Global,
     read: Result<Command<'_>, WordFault>,
