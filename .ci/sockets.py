@@ -128,20 +128,21 @@ class Reader:
     """Takes replies off a socket."""
 
     def __init__(self, s):
-        self.s, self.held = s, b""
+        self.s, self.held = s, bytearray()
 
     def more(self):
         piece = self.s.recv(65536)
         if not piece:
-            raise Wrong(f"the connection ended after {self.held!r}")
+            raise Wrong(f"the connection ended after {bytes(self.held[-200:])!r}")
         self.held += piece
 
     def reply(self, has_body=True):
         """The status, the fields by their lower-case names, and the body."""
-        while b"\r\n\r\n" not in self.held:
+        while (end := self.held.find(b"\r\n\r\n")) < 0:
             self.more()
-        head, self.held = self.held.split(b"\r\n\r\n", 1)
-        first, *rest = head.decode().split("\r\n")
+        head = self.held[:end].decode()
+        del self.held[: end + 4]
+        first, *rest = head.split("\r\n")
         status = int(first.split()[1])
         fields = dict((name.lower(), value.strip()) for name, value in (line.split(":", 1) for line in rest))
         if status == 100:
@@ -149,7 +150,8 @@ class Reader:
         length = int(fields.get("content-length", 0)) if has_body and status not in (204, 304) else 0
         while len(self.held) < length:
             self.more()
-        body, self.held = self.held[:length], self.held[length:]
+        body = bytes(self.held[:length])
+        del self.held[:length]
         return status, fields, body
 
     def ended(self):
